@@ -1,0 +1,4 @@
+pub mod Combinations
+pub mod Filling
+pub mod Positives
+pub mod Telling

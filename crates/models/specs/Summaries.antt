@@ -1,0 +1,18 @@
+-- What a model keeps of the pairs of two kinds, told by one cell.
+use mathlib.Core.Bool.{Bool}
+use mathlib.Core.Path.{_≡_}
+use Rattle.models.specs.Tables.{cellKeeps}
+use Rattle.models.specs.declared.facts.Facts.{Facts}
+use Rattle.models.specs.declared.facts.Kind.{Kind}
+use Rattle.models.specs.declared.table.Cell.{Cell}
+
+abbrev pub facts : Kind → Kind → Bool → Bool → Bool → Facts
+facts x y s d c = record { earlier = x; later = y; «same_addr» = s; «data_dep» = d; «control_dep» = c }
+
+-- the cell says what is kept of the pairs of kinds x and y where s and d hold, whatever the control dependency is
+abbrev pub Agrees : (Facts → Bool) → Cell → Kind → Kind → Bool → Bool → Type 0
+Agrees keeps cell x y s d = (c : Bool) → keeps (facts x y s d c) ≡ cellKeeps cell (facts x y s d c)
+
+-- whatever the three facts are, the pairs of kinds x and y are kept just where the cell says
+abbrev pub Describes : (Facts → Bool) → Kind → Kind → Cell → Type 0
+Describes keeps x y cell = (s d c : Bool) → keeps (facts x y s d c) ≡ cellKeeps cell (facts x y s d c)

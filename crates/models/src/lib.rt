@@ -1,0 +1,31 @@
+// Models of what a processor may not reorder.
+mod by_name;
+mod facts;
+mod formula;
+mod model;
+mod pair;
+mod refusal;
+mod summary;
+mod table;
+
+pub use by_name::Named;
+pub use by_name::NamedModel;
+pub use facts::Facts;
+pub use facts::KINDS;
+pub use facts::Kind;
+pub use formula::Formula;
+pub use formula::FormulaModel;
+pub use formula::Word;
+pub use formula::WordPartialEq;
+pub use model::Model;
+pub use pair::Both;
+pub use pair::BothModel;
+pub use pair::Either;
+pub use pair::EitherModel;
+pub use refusal::Refusal;
+pub use refusal::RefusalDebug;
+pub use refusal::RefusalPartialEq;
+pub use summary::cell_of;
+pub use table::Cell;
+pub use table::Table;
+pub use table::TableModel;
