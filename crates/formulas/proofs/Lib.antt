@@ -1,0 +1,5 @@
+pub mod Grammars
+pub mod Lexing
+pub mod NamedTexts
+pub mod Readings
+pub mod Spelled
