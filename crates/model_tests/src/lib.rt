@@ -1,0 +1,3 @@
+// Tests of the crate `models`.
+#[cfg(test)]
+mod tests;
