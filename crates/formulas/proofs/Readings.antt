@@ -13,7 +13,7 @@ use Rattle.std.specs.declared.option.Option.{Option}
 use Rattle.std.specs.declared.option.Option.the-variants.{Some, None}
 use Rattle.std.specs.declared.result.Result.{Result}
 use Rattle.std.specs.declared.result.Result.the-variants.{Ok, Err}
-use Rattle.formulas.specs.Grammar.{Level, formula, term, factor, Reads, one-term, more-terms, one-factor, more-factors, name, bracketed, Forms, Admitted, Taken, Refused}
+use Rattle.formulas.specs.Grammar.{Level, formula, term, factor, Reads, one-term, more-terms, one-factor, more-factors, name, bracketed, Forms, Admitted, Taken, Refused, Unambiguous}
 use Rattle.formulas.specs.Items.{NextToken}
 use Rattle.formulas.specs.Readers.{Not-first, Stops, Longest, Finds, AfterSign}
 use Rattle.models.specs.Refusals.{told, unnumbered}
@@ -175,10 +175,14 @@ module _ (s : List ℕ) (ts : List Token) (all : Tokens s 0 ts) (p : Parsed) (fo
   taken admitted none =
       let (t, us, longest, left, tree) = found in (
         t,
-        record { admitted = admitted; forms = (ts, all, subst (λ (x : List Token). Reads formula ts t x) (none us left) (longest .reads)); only = λ u forms. sym (alike longest (whole forms) .0) },
+        record { admitted = admitted; forms = (ts, all, subst (λ (x : List Token). Reads formula ts t x) (none us left) (longest .reads)) },
         tree,
       )
 
 pub finished : (s : List ℕ) (r : Result Formula Refusal) (t : Tree) → Taken s t → ByOk r (λ f. shape f ≡ t) (λ e. told e ≡ unnumbered) → ByOk r (λ f. Taken s (shape f)) (λ e. Refused s (told e))
 finished s (Ok f) t here e = subst (Taken s) (sym e) here
 finished s (Err x) t here e = subst (Refused s) (sym e) (t, here)
+
+pub single : (s : List ℕ) → Unambiguous s
+single s t u (ts, all, reads) (us, same, others) =
+    determined reads nothing-stops (subst (λ (x : List Token). Reads formula x u []) (tokens-unique s same all) others) nothing-stops .0

@@ -35,11 +35,14 @@ pub record Admitted (s : List ℕ) : Type 0 where
   pub known : (p : ℕ) → Unknown s p → ⊥
   pub shallow : TooDeep s → ⊥
 
--- what a text that is taken has; no other tree has this text
+-- a text that is taken, and its tree
 pub record Taken (s : List ℕ) (t : Tree) : Type 0 where
   pub admitted : Admitted s
   pub forms : Forms s t
-  pub only : (u : Tree) → Forms s u → u ≡ t
+
+-- a text has at most one tree
+abbrev pub Unambiguous : List ℕ → Type 0
+Unambiguous s = (t u : Tree) → Forms s t → Forms s u → t ≡ u
 
 -- the refusal that is the first to apply to a text, of 10, 11, 13 and 12 in this order;
 -- want of memory is told only of a text that none of them applies to

@@ -7,7 +7,7 @@ ghost use mathlib.Core.Path.{_≡_};
 ghost use Rattle.std.specs.Options.{Cases};
 ghost use Rattle.std.specs.Results.{Cases as ByOk};
 ghost use Rattle.std.specs.Vec.{made};
-ghost use Rattle.formulas.specs.Grammar.{formula, term, factor, Admitted, Taken, Refused};
+ghost use Rattle.formulas.specs.Grammar.{formula, term, factor, Admitted, Taken, Refused, Unambiguous};
 ghost use Rattle.formulas.specs.Readers.{Finds, Advances, AfterSign};
 ghost use Rattle.models.specs.Refusals.{told, unnumbered};
 ghost use Rattle.models.specs.Trees.{Tree, both, either, shape};
@@ -158,7 +158,8 @@ fn finish(tree: Result<Formula, AllocError>) -> Result<Formula, Refusal>
 // Reads a formula text. The first refusal that applies is the answer, of these in this order: the length,
 // an unknown word or byte, brackets that nest too deep, and words that form no formula.
 pub fn parse(heap: Global, text: &[u8]) -> Result<Formula, Refusal>
-    ensures { λ r. ⌜ ByOk r (λ f. Taken (now (text .entry)) (shape f)) (λ e. Refused (now (text .entry)) (told e)) ⌝ }
+    ensures answer { λ r. ⌜ ByOk r (λ f. Taken (now (text .entry)) (shape f)) (λ e. Refused (now (text .entry)) (told e)) ⌝ }
+    ensures single { λ _. ⌜ Unambiguous (now (text .entry)) ⌝ }
 {
     screen(text)?;
     let Some(parsed) = read_formula(heap, text, 0) else {

@@ -1,26 +1,16 @@
 // The command `litmus`.
-ghost use mathlib.Core.Path.{_≡_};
-ghost use Rattle.litmus.specs.Requests.{shown};
-ghost use Rattle.litmus.specs.declared.Failure.the-variants.{Refused, Output};
-
+mod chosen;
 mod request;
 
-use formulas::parse;
-use models::Both;
-use models::BothModel;
+ghost use mathlib.Core.Path.{_≡_};
+ghost use Rattle.litmus.specs.Requests.{shown};
+use chosen::summary_of;
 use models::Cell;
-use models::Either;
-use models::EitherModel;
-use models::FormulaModel;
-use models::Kind;
-use models::Model;
 use models::Named;
 use models::NamedModel;
 use models::Refusal;
-use models::Table;
-use models::TableModel;
-use models::cell_of;
-use request::Choice;
+use models::Summary;
+use models::summarize;
 use request::Request;
 use request::read_request;
 use std::env;
@@ -45,29 +35,6 @@ MODEL is one of
   both NAME NAME               what both keep
 ";
 
-// Why a request has no table for its answer.
-#[derive(Drop)]
-enum Failure {
-    Refused(Refusal),
-    Output(io::Error),
-}
-
-impl From<Refusal> for Failure as FailureFromRefusal {
-    ghost converts = { λ e r. r ≡ Refused e };
-
-    fn from(refusal: Refusal) -> Failure {
-        Failure::Refused(refusal)
-    }
-}
-
-impl From<io::Error> for Failure as FailureFromIo {
-    ghost converts = { λ e r. r ≡ Output e };
-
-    fn from(error: io::Error) -> Failure {
-        Failure::Output(error)
-    }
-}
-
 fn symbol(cell: Option<Cell>) -> char
     ensures { λ r. ⌜ r ≡ shown cell ⌝ }
 {
@@ -81,11 +48,11 @@ fn symbol(cell: Option<Cell>) -> char
     }
 }
 
-// Prints what a model keeps.
-fn show<M: Model>(rt: &LibcRuntime, model: &M) -> io::Result<()> {
-    for earlier in Kind::ALL {
-        for later in Kind::ALL {
-            rt.print(symbol(cell_of(model, earlier, later)))?;
+// Prints what a model keeps, a line for each row.
+fn show(rt: &LibcRuntime, summary: Summary) -> io::Result<()> {
+    for row in summary {
+        for cell in row {
+            rt.print(symbol(cell))?;
         }
         rt.println("")?;
     }
@@ -93,26 +60,9 @@ fn show<M: Model>(rt: &LibcRuntime, model: &M) -> io::Result<()> {
 }
 
 fn show_models(rt: &LibcRuntime) -> io::Result<()> {
-    for named in Named::ALL {
+    for named in Named::all() {
         rt.println(named.name())?;
-        show(rt, &named)?;
-    }
-    Ok(())
-}
-
-fn show_choice(rt: &LibcRuntime, choice: Choice<'_>) -> Result<(), Failure> {
-    match choice {
-        Choice::Name(name) => show(rt, &Named::from_name(name)?)?,
-        Choice::Formula(text) => show(rt, &parse(rt.alloc(), text.as_bytes())?)?,
-        Choice::Table(numbers) => show(rt, &Table::new(numbers)?)?,
-        Choice::Either(first, second) => {
-            let (first, second) = (Named::from_name(first)?, Named::from_name(second)?);
-            show(rt, &Either { first, second })?;
-        }
-        Choice::Both(first, second) => {
-            let (first, second) = (Named::from_name(first)?, Named::from_name(second)?);
-            show(rt, &Both { first, second })?;
-        }
+        show(rt, summarize(&named))?;
     }
     Ok(())
 }
@@ -132,10 +82,9 @@ fn answer(rt: &LibcRuntime, request: Request<'_>) -> Result<(), AnyError> {
     match request {
         Request::Help => rt.print(USAGE)?,
         Request::Models => show_models(rt)?,
-        Request::Keeps(choice) => match show_choice(rt, choice) {
-            Ok(()) => {}
-            Err(Failure::Refused(refusal)) => show_refusal(rt, refusal)?,
-            Err(Failure::Output(error)) => return Err(error.into()),
+        Request::Keeps(choice) => match summary_of(rt.alloc(), choice) {
+            Ok(summary) => show(rt, summary)?,
+            Err(refusal) => show_refusal(rt, refusal)?,
         },
     }
     Ok(())

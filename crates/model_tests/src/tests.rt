@@ -13,21 +13,33 @@ use models::Named;
 use models::NamedModel;
 use models::Refusal;
 use models::RefusalDebug;
-use models::RefusalPartialEq;
 use models::Table;
 use models::TableModel;
 use std::alloc::Global;
 use std::test::*;
 
+// The number and the place of a refusal.
+type Told = (Option<u8>, Option<usize>);
+
+fn told(refusal: Refusal) -> Told {
+    (refusal.number(), refusal.place())
+}
+
 // Why a formula text is refused, if it is.
-fn refusal(heap: Global, text: &[u8]) -> Option<Refusal> {
+fn refusal(heap: Global, text: &[u8]) -> Option<Told> {
     match parse(heap, text) {
         Ok(_) => None,
-        Err(refusal) => Some(refusal),
+        Err(refusal) => Some(told(refusal)),
     }
 }
 
-const TEXTS: [(&str, Option<Refusal>); 38] = [
+const TOO_LONG: Option<Told> = Some((Some(10), None));
+
+const NO_FORMULA: Option<Told> = Some((Some(12), None));
+
+const TOO_DEEP: Option<Told> = Some((Some(13), None));
+
+const TEXTS: [(&str, Option<Told>); 38] = [
     // every word, and each sign with and without spaces
     ("true", None),
     ("Read.x", None),
@@ -42,34 +54,34 @@ const TEXTS: [(&str, Option<Refusal>); 38] = [
     ("true&true|true&(true|true)", None),
     ("  ( Read.x )  &  true  ", None),
     // no formula
-    ("", Some(Refusal::NoFormula)),
-    ("     ", Some(Refusal::NoFormula)),
-    ("true true", Some(Refusal::NoFormula)),
-    ("true &", Some(Refusal::NoFormula)),
-    ("| true", Some(Refusal::NoFormula)),
-    ("(true", Some(Refusal::NoFormula)),
-    ("true)", Some(Refusal::NoFormula)),
-    ("()", Some(Refusal::NoFormula)),
-    (")(((((((((", Some(Refusal::NoFormula)),
+    ("", NO_FORMULA),
+    ("     ", NO_FORMULA),
+    ("true true", NO_FORMULA),
+    ("true &", NO_FORMULA),
+    ("| true", NO_FORMULA),
+    ("(true", NO_FORMULA),
+    ("true)", NO_FORMULA),
+    ("()", NO_FORMULA),
+    (")(((((((((", NO_FORMULA),
     // unknown words and bytes, at the first and at the last place
-    ("Read.xx", Some(Refusal::UnknownWord(0))),
-    ("Read.x1", Some(Refusal::UnknownWord(6))),
-    ("1", Some(Refusal::UnknownWord(0))),
-    ("True", Some(Refusal::UnknownWord(0))),
-    ("tru", Some(Refusal::UnknownWord(0))),
-    ("ControlDe", Some(Refusal::UnknownWord(0))),
-    ("ControlDepp", Some(Refusal::UnknownWord(0))),
-    (".", Some(Refusal::UnknownWord(0))),
-    ("true & x", Some(Refusal::UnknownWord(7))),
-    ("true & true!", Some(Refusal::UnknownWord(11))),
-    ("true\ttrue", Some(Refusal::UnknownWord(4))),
-    ("Read.x.Read.y", Some(Refusal::UnknownWord(0))),
+    ("Read.xx", Some((Some(11), Some(0)))),
+    ("Read.x1", Some((Some(11), Some(6)))),
+    ("1", Some((Some(11), Some(0)))),
+    ("True", Some((Some(11), Some(0)))),
+    ("tru", Some((Some(11), Some(0)))),
+    ("ControlDe", Some((Some(11), Some(0)))),
+    ("ControlDepp", Some((Some(11), Some(0)))),
+    (".", Some((Some(11), Some(0)))),
+    ("true & x", Some((Some(11), Some(7)))),
+    ("true & true!", Some((Some(11), Some(11)))),
+    ("true\ttrue", Some((Some(11), Some(4)))),
+    ("Read.x.Read.y", Some((Some(11), Some(0)))),
     // brackets: eight are taken, nine are not, and an unknown byte comes first
     ("((((((((true))))))))", None),
-    ("(((((((((true)))))))))", Some(Refusal::TooDeep)),
-    ("(((((((((", Some(Refusal::TooDeep)),
-    ("(((((((((?", Some(Refusal::UnknownWord(9))),
-    ("()()()()()()()()()()", Some(Refusal::NoFormula)),
+    ("(((((((((true)))))))))", TOO_DEEP),
+    ("(((((((((", TOO_DEEP),
+    ("(((((((((?", Some((Some(11), Some(9)))),
+    ("()()()()()()()()()()", NO_FORMULA),
 ];
 
 #[test]
@@ -84,16 +96,16 @@ fn formula_texts(rt: LibcRuntime) -> Result<(), Fail> {
 fn formula_lengths(rt: LibcRuntime) -> Result<(), Fail> {
     let heap = rt.alloc();
     let mut text = [b' '; 257];
-    check_eq(refusal(heap, &text[0..256]), Some(Refusal::NoFormula))?;
+    check_eq(refusal(heap, &text[0..256]), NO_FORMULA)?;
     text[252] = b't';
     text[253] = b'r';
     text[254] = b'u';
     text[255] = b'e';
     check_eq(refusal(heap, &text[0..256]), None)?;
-    check_eq(refusal(heap, &text), Some(Refusal::FormulaTooLong))?;
+    check_eq(refusal(heap, &text), TOO_LONG)?;
     text[0] = b'?';
-    check_eq(refusal(heap, &text[0..256]), Some(Refusal::UnknownWord(0)))?;
-    check_eq(refusal(heap, &text), Some(Refusal::FormulaTooLong))
+    check_eq(refusal(heap, &text[0..256]), Some((Some(11), Some(0))))?;
+    check_eq(refusal(heap, &text), TOO_LONG)
 }
 
 // Whether two models keep the same of all pairs of two kinds.
@@ -118,8 +130,8 @@ fn same_answers<A: Model, B: Model>(a: &A, b: &B, earlier: Kind, later: Kind) ->
 
 fn alike<A: Model, B: Model>(a: &A, b: &B) -> bool {
     let mut same = true;
-    for earlier in Kind::ALL {
-        for later in Kind::ALL {
+    for earlier in Kind::all() {
+        for later in Kind::all() {
             same = same & same_answers(a, b, earlier, later);
         }
     }

@@ -11,6 +11,7 @@ use Rattle.models.specs.declared.facts.Facts.{Facts}
 use Rattle.models.specs.declared.facts.Kind.{Kind}
 use Rattle.models.specs.declared.facts.Kind.the-variants.{Read, Write, Fence, Arithmetic, Branch}
 use Rattle.models.specs.declared.table.Table.{Table}
+use Rattle.models.proofs.ByKind.{by-kind}
 
 abbrev pub everyBool : (Bool → Bool) → Bool
 everyBool p = p false && p true
@@ -28,7 +29,7 @@ at-kind p e k =
     let w = and-parts (p Write) (p Fence && (p Arithmetic && p Branch)) (r .1) in
     let f = and-parts (p Fence) (p Arithmetic && p Branch) (w .1) in
     let a = and-parts (p Arithmetic) (p Branch) (f .1) in
-    elim k as (λ j. p j ≡ true) [ Read ↦ r .0 | Write ↦ w .0 | Fence ↦ f .0 | Arithmetic ↦ a .0 | Branch ↦ a .1 ]
+    by-kind (λ j. p j ≡ true) (r .0) (w .0) (f .0) (a .0) (a .1) k
 
 abbrev facts : Kind → Kind → Bool → Bool → Bool → Facts
 facts x y s d c = record { earlier = x; later = y; «same_addr» = s; «data_dep» = d; «control_dep» = c }

@@ -1,6 +1,7 @@
 -- The facts of a pair of instructions, and the law that every model obeys.
 use Prim.Native.Nat.{ℕ}
 use mathlib.Core.Bool.{Bool, true}
+use mathlib.Core.List.{List, [], _∷_}
 use mathlib.Core.Path.{_≡_}
 use lib.Dec.{eqb}
 use Rattle.models.specs.declared.facts.Facts.{Facts}
@@ -18,6 +19,14 @@ index Branch = 4
 -- whether two kinds are the same one
 abbrev pub same : Kind → Kind → Bool
 same k l = eqb (index k) (index l)
+
+-- all kinds, in the order of a table's rows and columns
+abbrev pub allKinds : List Kind
+allKinds = Read ∷ Write ∷ Fence ∷ Arithmetic ∷ Branch ∷ []
+
+-- P holds of each kind
+abbrev pub EachKind : (Kind → Type 0) → Type 0
+EachKind P = P Read × (P Write × (P Fence × (P Arithmetic × P Branch)))
 
 -- how many kinds there are
 abbrev pub kinds : ℕ

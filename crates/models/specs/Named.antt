@@ -14,6 +14,9 @@ use Rattle.models.specs.declared.table.Cell.{Cell}
 use Rattle.models.specs.declared.table.Cell.the-variants.{Free, Always, SameAddr as SameAddress, Dependent, AnyFact}
 use Rattle.models.specs.declared.table.Table.{Table}
 
+abbrev pub allNamed : List Named
+allNamed = Sc ∷ Ibm370 ∷ Tso ∷ Rmo ∷ []
+
 abbrev pub nameOf : Named → List ℕ
 nameOf Sc = codes "SC"
 nameOf Ibm370 = codes "IBM370"

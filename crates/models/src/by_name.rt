@@ -1,6 +1,6 @@
 // The models that are had by name.
 ghost use mathlib.Core.Path.{_≡_};
-ghost use Rattle.models.specs.Named.{nameOf, formulaOf, tableOf, Is};
+ghost use Rattle.models.specs.Named.{allNamed, nameOf, formulaOf, tableOf, Is};
 ghost use Rattle.models.specs.Trees.{holds};
 ghost use Rattle.models.specs.declared.by_name.Named.{Named};
 ghost use Rattle.models.specs.Refusals.{told, numbered};
@@ -18,7 +18,7 @@ const KEPT: Row = Row {
     cells: [Cell::Always; KINDS],
 };
 
-// only a fence is waited for
+// only a fence waits
 const FENCED: Row = Row {
     cells: [Cell::Free, Cell::Free, Cell::Always, Cell::Free, Cell::Free],
 };
@@ -89,7 +89,12 @@ pub enum Named {
 }
 
 impl Named {
-    pub const ALL: [Named; 4] = [Named::Sc, Named::Ibm370, Named::Tso, Named::Rmo];
+    // All of them, the strongest first.
+    pub fn all() -> [Named; 4]
+        ensures { λ r. ⌜ r ≡ allNamed ⌝ }
+    {
+        [Named::Sc, Named::Ibm370, Named::Tso, Named::Rmo]
+    }
 
     // The model with this name.
     pub fn from_name(name: &str) -> Result<Named, Refusal>

@@ -1,6 +1,6 @@
 // What a model is told of an earlier and a later instruction of one thread.
 ghost use mathlib.Core.Path.{_≡_};
-ghost use Rattle.models.specs.Facts.{index, same};
+ghost use Rattle.models.specs.Facts.{index, same, allKinds};
 
 #[derive(Clone, Copy, PartialEq, Eq)]
 pub enum Kind {
@@ -16,13 +16,17 @@ pub const KINDS: usize = 5;
 
 impl Kind {
     // All kinds, in the order of a table's rows and columns.
-    pub const ALL: [Kind; KINDS] = [
-        Kind::Read,
-        Kind::Write,
-        Kind::Fence,
-        Kind::Arithmetic,
-        Kind::Branch,
-    ];
+    pub fn all() -> [Kind; KINDS]
+        ensures { λ r. ⌜ r ≡ allKinds ⌝ }
+    {
+        [
+            Kind::Read,
+            Kind::Write,
+            Kind::Fence,
+            Kind::Arithmetic,
+            Kind::Branch,
+        ]
+    }
 
     // The row and the column of this kind in a table.
     pub fn index(self) -> usize

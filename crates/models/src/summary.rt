@@ -1,9 +1,8 @@
 // A model's answers told by cells.
-ghost use Rattle.std.specs.Options.{Cases};
-ghost use Rattle.models.specs.Summaries.{Agrees, Describes};
+ghost use Rattle.models.specs.Summaries.{Agrees, Describes, TellsCell, TellsRow, Summarizes};
 ghost use Rattle.models.specs.Tells.{Tells};
-ghost use Rattle.models.specs.declared.table.Cell.{Cell};
 use crate::facts::Facts;
+use crate::facts::KINDS;
 use crate::facts::Kind;
 use crate::model::Model;
 use crate::table::Cell;
@@ -57,7 +56,7 @@ const CELLS: [Cell; 5] = [
 
 // The cell that says what a model keeps of all pairs of two kinds, where there is one.
 pub fn cell_of<M: Model>(model: &M, earlier: Kind, later: Kind) -> Option<Cell>
-    ensures { λ r. ⌜ Cases r ((cell : Cell) → Describes (M·Model .meaning (now (model .entry))) earlier later cell → ⊥) (λ cell. Describes (M·Model .meaning (now (model .entry))) earlier later cell) ⌝ }
+    ensures { λ r. ⌜ TellsCell (M·Model .meaning (now (model .entry))) earlier later r ⌝ }
 {
     for cell in CELLS {
         if describes(model, cell, earlier, later) {
@@ -65,4 +64,31 @@ pub fn cell_of<M: Model>(model: &M, earlier: Kind, later: Kind) -> Option<Cell>
         }
     }
     None
+}
+
+// For each kind of the earlier instruction, and in it for each kind of the later one, the cell that says
+// what a model keeps, where there is one.
+pub type Summary = [[Option<Cell>; KINDS]; KINDS];
+
+fn row_of<M: Model>(model: &M, earlier: Kind) -> [Option<Cell>; KINDS]
+    ensures { λ r. ⌜ TellsRow (M·Model .meaning (now (model .entry))) earlier r ⌝ }
+{
+    let read = cell_of(model, earlier, Kind::Read);
+    let write = cell_of(model, earlier, Kind::Write);
+    let fence = cell_of(model, earlier, Kind::Fence);
+    let arithmetic = cell_of(model, earlier, Kind::Arithmetic);
+    let branch = cell_of(model, earlier, Kind::Branch);
+    [read, write, fence, arithmetic, branch]
+}
+
+// What a model keeps, told by cells.
+pub fn summarize<M: Model>(model: &M) -> Summary
+    ensures { λ r. ⌜ Summarizes (M·Model .meaning (now (model .entry))) r ⌝ }
+{
+    let read = row_of(model, Kind::Read);
+    let write = row_of(model, Kind::Write);
+    let fence = row_of(model, Kind::Fence);
+    let arithmetic = row_of(model, Kind::Arithmetic);
+    let branch = row_of(model, Kind::Branch);
+    [read, write, fence, arithmetic, branch]
 }
