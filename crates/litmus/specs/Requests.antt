@@ -1,11 +1,12 @@
 -- What the words of a command line ask for.
 use Prim.Native.Nat.{ℕ, _+_, _<_}
-use mathlib.Core.List.{List, [], _∷_, map}
+use mathlib.Core.List.{List, [], _∷_, _++_, map}
 use mathlib.Core.Path.{_≡_}
 use denote.Ref.{RefT, now}
 use lib.Chars.{codes}
 use lib.ListN.{length}
 use Rattle.std.specs.Options.{Cases}
+use Rattle.std.specs.Written.{decimal}
 use Rattle.std.specs.declared.option.Option.{Option}
 use Rattle.std.specs.declared.option.Option.the-variants.{Some, None}
 use Rattle.models.specs.Tables.{cellNumber}
@@ -19,6 +20,11 @@ use Rattle.litmus.specs.declared.request.Request.the-variants.{Help, Models, K
 abbrev pub shown : Option Cell → ℕ
 shown (Some c) = 48 + cellNumber c
 shown None = 63
+
+-- the line of a refusal: its number and, where it has one, its place
+abbrev pub refusalLine : ℕ → Option ℕ → List ℕ
+refusalLine number None = codes "refused " ++ decimal number
+refusalLine number (Some place) = codes "refused " ++ (decimal number ++ (codes " place " ++ decimal place))
 
 -- something of which P holds, or none where P holds of nothing
 abbrev pub Finds : {A : Type 0} → (A → Type 0) → Option A → Type 0

@@ -3,7 +3,9 @@ mod chosen;
 mod request;
 
 ghost use mathlib.Core.Path.{_≡_};
-ghost use Rattle.litmus.specs.Requests.{shown};
+ghost use Rattle.litmus.specs.Requests.{shown, refusalLine};
+ghost use Rattle.std.specs.Of.String.{string-bytes};
+ghost use Rattle.std.specs.Vec.{made};
 use chosen::summary_of;
 use models::Cell;
 use models::Named;
@@ -13,6 +15,8 @@ use models::Summary;
 use models::summarize;
 use request::Request;
 use request::read_request;
+use std::alloc::AllocError;
+use std::alloc::Global;
 use std::env;
 use std::error::AnyError;
 use std::io;
@@ -67,14 +71,21 @@ fn show_models(rt: &LibcRuntime) -> io::Result<()> {
     Ok(())
 }
 
+// The line that tells a refusal.
+fn refusal_line(heap: Global, number: u8, place: Option<usize>) -> Result<String, AllocError>
+    ensures { λ r. ⌜ made r (λ s. string-bytes s ≡ refusalLine number place) ⌝ }
+{
+    match place {
+        Some(place) => format!(heap, "refused {number} place {place}"),
+        None => format!(heap, "refused {number}"),
+    }
+}
+
 fn show_refusal(rt: &LibcRuntime, refusal: Refusal) -> Result<(), AnyError> {
     let Some(number) = refusal.number() else {
         return Err("out of memory".into());
     };
-    match refusal.place() {
-        Some(place) => println!(rt, "refused {number} place {place}")?,
-        None => println!(rt, "refused {number}")?,
-    }
+    rt.println(refusal_line(rt.alloc(), number, refusal.place())?)?;
     Ok(())
 }
 

@@ -5,6 +5,7 @@ use Rattle.std.proofs.shelf.Tests.{and-parts, not-true}
 use Rattle.models.specs.Named.{Is, numbersOf, cellsOf, formulaOf, tableOf}
 use Rattle.models.specs.declared.by_name.Named.{Named}
 use Rattle.models.specs.declared.by_name.Named.the-variants.{Sc, Ibm370, Tso, Rmo}
+use Rattle.models.specs.Summaries.{facts}
 use Rattle.models.specs.Tables.{tableKeeps}
 use Rattle.models.specs.Trees.{Tree, holds}
 use Rattle.models.specs.declared.facts.Facts.{Facts}
@@ -30,9 +31,6 @@ at-kind p e k =
     let f = and-parts (p Fence) (p Arithmetic && p Branch) (w .1) in
     let a = and-parts (p Arithmetic) (p Branch) (f .1) in
     by-kind (λ j. p j ≡ true) (r .0) (w .0) (f .0) (a .0) (a .1) k
-
-abbrev facts : Kind → Kind → Bool → Bool → Bool → Facts
-facts x y s d c = record { earlier = x; later = y; «same_addr» = s; «data_dep» = d; «control_dep» = c }
 
 -- the test p at all combinations
 abbrev pub everywhere : (Facts → Bool) → Bool

@@ -12,6 +12,7 @@ use Rattle.models.specs.declared.facts.Facts.{Facts}
 use Rattle.models.specs.declared.facts.Kind.{Kind}
 use Rattle.models.specs.declared.table.Cell.{Cell}
 
+-- a combination of facts
 abbrev pub facts : Kind → Kind → Bool → Bool → Bool → Facts
 facts x y s d c = record { earlier = x; later = y; «same_addr» = s; «data_dep» = d; «control_dep» = c }
 

@@ -89,7 +89,7 @@ pub enum Named {
 }
 
 impl Named {
-    // All of them, the strongest first.
+    // All of them, in the order of their list.
     pub fn all() -> [Named; 4]
         ensures { λ r. ⌜ r ≡ allNamed ⌝ }
     {
