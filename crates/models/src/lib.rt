@@ -13,6 +13,7 @@ pub use by_name::NamedModel;
 pub use facts::Facts;
 pub use facts::KINDS;
 pub use facts::Kind;
+pub use facts::KindPartialEq;
 pub use formula::Formula;
 pub use formula::FormulaModel;
 pub use formula::Word;

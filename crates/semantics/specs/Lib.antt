@@ -1,0 +1,13 @@
+pub mod Bounds
+pub mod Building
+pub mod Contents
+pub mod Events
+pub mod HappensBefore
+pub mod Lists
+pub mod Orders
+pub mod PairFacts
+pub mod Parts
+pub mod Program
+pub mod Refusals
+pub mod Soughts
+pub mod Values
