@@ -1,0 +1,12 @@
+pub mod Bridging
+pub mod ChoiceToOrder
+pub mod Computed
+pub mod Counted
+pub mod Deciding
+pub mod Edges
+pub mod LastSet
+pub mod Monotone
+pub mod OrderToChoice
+pub mod Sorting
+pub mod Table
+pub mod Tested
