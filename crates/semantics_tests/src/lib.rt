@@ -1,0 +1,3 @@
+// Tests of the crate `semantics`.
+#[cfg(test)]
+mod tests;
