@@ -12,7 +12,7 @@ use Rattle.litmus.specs.Requests.{texts, Rows, Asks, Requests}
 use Rattle.litmus.specs.declared.request.Choice.{Choice}
 use Rattle.litmus.specs.declared.request.Choice.the-variants.{Name, Formula, Table, Either, Both}
 use Rattle.litmus.specs.declared.request.Request.{Request}
-use Rattle.litmus.specs.declared.request.Request.the-variants.{Help, Models, Keeps}
+use Rattle.litmus.specs.declared.request.Request.the-variants.{Help, Models, Examples, Keeps}
 
 -- what stands past the end of the words
 abbrev pub past : RefT (List ℕ)
@@ -60,6 +60,7 @@ no-table rest some h (Both a b) e = search needs
 pub no-choice : (rest : List (List ℕ)) → ((c : Choice) → Asks rest c → ⊥) → (q : Request) → Requests (codes "keeps" ∷ rest) q → ⊥
 no-choice rest h Help e = search needs
 no-choice rest h Models e = search needs
+no-choice rest h Examples e = search needs
 no-choice rest h (Keeps c) e = search needs
 
 module _ (ws : List (RefT (List ℕ))) where
@@ -77,7 +78,8 @@ module _ (ws : List (RefT (List ℕ))) where
   none-asked t n f p (Either a b) e = p (count _ e)
   none-asked t n f p (Both a b) e = p (count _ e)
 
-  pub none-requested : (0 < length ws → now (getD ws 0 past) ≡ codes "keeps" → ⊥) → (length ws ≡ 1 → now (getD ws 0 past) ≡ codes "help" → ⊥) → (length ws ≡ 1 → now (getD ws 0 past) ≡ codes "models" → ⊥) → (q : Request) → Requests (texts ws) q → ⊥
-  none-requested k h m Help e = h (count _ e) (first _ e)
-  none-requested k h m Models e = m (count _ e) (first _ e)
-  none-requested k h m (Keeps c) e = k (omega (arith, count _ (e .1))) (first _ (e .1))
+  pub none-requested : (0 < length ws → now (getD ws 0 past) ≡ codes "keeps" → ⊥) → (length ws ≡ 1 → now (getD ws 0 past) ≡ codes "help" → ⊥) → (length ws ≡ 1 → now (getD ws 0 past) ≡ codes "models" → ⊥) → (length ws ≡ 1 → now (getD ws 0 past) ≡ codes "examples" → ⊥) → (q : Request) → Requests (texts ws) q → ⊥
+  none-requested k h m x Help e = h (count _ e) (first _ e)
+  none-requested k h m x Models e = m (count _ e) (first _ e)
+  none-requested k h m x Examples e = x (count _ e) (first _ e)
+  none-requested k h m x (Keeps c) e = k (omega (arith, count _ (e .1))) (first _ (e .1))

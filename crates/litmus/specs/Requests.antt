@@ -14,7 +14,7 @@ use Rattle.models.specs.declared.table.Cell.{Cell}
 use Rattle.litmus.specs.declared.request.Choice.{Choice}
 use Rattle.litmus.specs.declared.request.Choice.the-variants.{Name, Formula, Table, Either, Both}
 use Rattle.litmus.specs.declared.request.Request.{Request}
-use Rattle.litmus.specs.declared.request.Request.the-variants.{Help, Models, Keeps}
+use Rattle.litmus.specs.declared.request.Request.the-variants.{Help, Models, Examples, Keeps}
 
 -- the character that shows a cell: its number's digit, and `?` where there is no cell
 abbrev pub shown : Option Cell → ℕ
@@ -65,4 +65,5 @@ Asks words (Both a b) = words ≡ codes "both" ∷ now a ∷ now b ∷ []
 abbrev pub Requests : List (List ℕ) → Request → Type 0
 Requests words Help = words ≡ codes "help" ∷ []
 Requests words Models = words ≡ codes "models" ∷ []
+Requests words Examples = words ≡ codes "examples" ∷ []
 Requests words (Keeps c) = (rest : List (List ℕ)) × (words ≡ codes "keeps" ∷ rest) × Asks rest c

@@ -2,6 +2,7 @@
 mod chosen;
 mod request;
 
+ghost use mathlib.Core.Bool.{cond};
 ghost use mathlib.Core.Path.{_≡_};
 ghost use Rattle.litmus.specs.Requests.{shown, refusalLine};
 ghost use Rattle.std.specs.Of.String.{string-bytes};
@@ -20,10 +21,15 @@ use std::alloc::Global;
 use std::env;
 use std::error::AnyError;
 use std::io;
+use theorems::verdicts;
 
 const USAGE: &str = "usage: litmus models
        litmus keeps MODEL
+       litmus examples
        litmus help
+
+examples prints worked examples with their rulings under SC, IBM370, TSO and RMO:
+A is allowed, F forbidden; b=0 is a read that expects 0, and bars part threads.
 
 models prints the four named models, keeps prints what MODEL keeps in program order:
 a row for each kind of the earlier instruction and in it a column for each kind of
@@ -71,6 +77,39 @@ fn show_models(rt: &LibcRuntime) -> io::Result<()> {
     Ok(())
 }
 
+// The worked examples in words.
+const EXAMPLES: [&str; 12] = [
+    "1. W a 1, b=0 | W b 1, a=0",
+    "2. W a 1, W b 1 | b=1, a=0",
+    "3. W a 1 | a=1, a=0",
+    "4. a=1, W b 1 | b=1, W a 1",
+    "5. as 4, each write storing the register just read",
+    "6. as 1 with a fence between in both threads",
+    "7. W a 1, a=1, b=0 | W b 1, b=1, a=0",
+    "8. W a 1, a=0",
+    "9. a=1, W a 1",
+    "10. a=7 alone, initial value 7",
+    "11. no instruction",
+    "12. W a 1 | W b 1 | a=1, b=0 | b=1, a=0",
+];
+
+fn ruling(allowed: bool) -> char
+    ensures { λ r. ⌜ r ≡ cond allowed 65 70 ⌝ }
+{
+    if allowed { 'A' } else { 'F' }
+}
+
+fn show_examples(rt: &LibcRuntime) -> io::Result<()> {
+    for (example, row) in EXAMPLES.iter().zip(verdicts().iter()) {
+        for allowed in row {
+            rt.print(ruling(*allowed))?;
+            rt.print(' ')?;
+        }
+        rt.println(*example)?;
+    }
+    Ok(())
+}
+
 // The line that tells a refusal.
 fn refusal_line(heap: Global, number: u8, place: Option<usize>) -> Result<String, AllocError>
     ensures { λ r. ⌜ made r (λ s. string-bytes s ≡ refusalLine number place) ⌝ }
@@ -93,6 +132,7 @@ fn answer(rt: &LibcRuntime, request: Request<'_>) -> Result<(), AnyError> {
     match request {
         Request::Help => rt.print(USAGE)?,
         Request::Models => show_models(rt)?,
+        Request::Examples => show_examples(rt)?,
         Request::Keeps(choice) => match summary_of(rt.alloc(), choice) {
             Ok(summary) => show(rt, summary)?,
             Err(refusal) => show_refusal(rt, refusal)?,

@@ -16,6 +16,7 @@ pub enum Choice<'a> {
 pub enum Request<'a> {
     Help,
     Models,
+    Examples,
     Keeps(Choice<'a>),
 }
 
@@ -78,6 +79,7 @@ pub fn read_request<'a>(words: &[&'a str]) -> Option<Request<'a>>
     match words {
         ["help"] => Some(Request::Help),
         ["models"] => Some(Request::Models),
+        ["examples"] => Some(Request::Examples),
         ["keeps", choice @ ..] => Some(Request::Keeps(read_choice(choice)?)),
         _ => None,
     }

@@ -26,6 +26,11 @@ returns-in-models c =
     let one : length (c .args .words .now) ≡ 1 = omega (arith, ltb-true, ltb-false) in
     rw (one-word (c .args .words .now) one, c .in-models .is-models)
 
+pub returns-in-examples : need.returns-in-examples
+returns-in-examples c =
+    let one : length (c .args .words .now) ≡ 1 = omega (arith, ltb-true, ltb-false) in
+    rw (one-word (c .args .words .now) one, c .in-examples .is-examples)
+
 pub returns-in-Continue-read-choice : need.returns-in-Continue-read-choice
 returns-in-Continue-read-choice c =
     let some : 0 < length (c .args .words .now) = search needs in
@@ -33,4 +38,4 @@ returns-in-Continue-read-choice c =
     (texts (after (c .args .words .now)), rw (more-words (c .args .words .now) some, is), c .in-Continue-read-choice .ensures tt)
 
 pub returns-in-rest : need.returns-in-rest
-returns-in-rest c = none-requested (c .args .words .now) (search needs) (search needs) (search needs)
+returns-in-rest c = none-requested (c .args .words .now) (search needs) (search needs) (search needs) (search needs)
