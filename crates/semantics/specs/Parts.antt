@@ -1,4 +1,4 @@
--- The conditions on an order, part by part.
+-- The conditions on an order, part by part, as the functions behind `fulfils` tell them; together they are `Fulfils`.
 use Prim.Native.Nat.{ℕ}
 use mathlib.Core.Bool.{Bool, false}
 use mathlib.Core.List.{List, []}
