@@ -1,7 +1,10 @@
 // Each limit at the last size taken and the first refused, values, facts and orders.
 use models::Named;
 use models::NamedModel;
+use semantics::Access;
 use semantics::Instruction;
+use semantics::LOCATIONS;
+use semantics::PLACES;
 use semantics::Refusal;
 use semantics::Stored;
 use semantics::Test;
@@ -137,6 +140,32 @@ fn values() -> Result<(), Fail> {
     check_eq(test.value(7), Some(0))?;
     check_eq(test.value(0), None)?;
     check_eq(test.value(8), None)
+}
+
+// The location and the value of an access, and whether it is a write.
+fn access(test: &Test, place: usize) -> Option<(bool, u8, u8)> {
+    match test.access(place) {
+        Access::Reading { location, value } => Some((false, location, value)),
+        Access::Writing { location, value } => Some((true, location, value)),
+        Access::Neither => None,
+    }
+}
+
+#[test]
+fn accesses() -> Result<(), Fail> {
+    let test = test(
+        &[
+            (0, read(0, 2), Some(5)),
+            (0, read(0, 2), None),
+            (0, write(3, 6), None),
+            (0, Instruction::Fence, None),
+        ],
+    );
+    check_eq(access(&test, 0), Some((false, 2, 5)))?;
+    check_eq(access(&test, 1), None)?;
+    check_eq(access(&test, 2), Some((true, 3, 6)))?;
+    check_eq(access(&test, 3), None)?;
+    check_eq((PLACES, LOCATIONS), (32, 4))
 }
 
 // The three facts of two places, if they are of one thread.
