@@ -1,10 +1,10 @@
 -- A text has at most one tree: from the same words, the longest formula, term or factor is one and the same.
-use Rattle.std.proofs.Common.{◌≡◌, ℕ, List, [], ◌∷◌, sym, refl, subst, ap₂, arith}
-use Rattle.formulas.specs.Grammar.{Level, formula, term, factor, Reads, one_term, more_terms, one_factor, more_factors, name, bracketed}
-use Rattle.formulas.specs.Readers.{NotFirst, Stops, Longest}
-use Rattle.models.specs.Trees.{Tree, word, both, either}
+use Rattle.std.proofs.Common.{◌≡◌, ℕ, List, ◌∷◌, sym, refl, subst, ap₂, arith}
+use Rattle.formulas.specs.Grammar.{Level, formula, Reads, one_term, more_terms, one_factor, more_factors, name, bracketed}
+use Rattle.formulas.specs.Readers.{NotFirst, Stops}
+use Rattle.models.specs.Trees.{Tree, both, either}
 use Rattle.formulas.specs.declared.token.Token.{Token}
-use Rattle.formulas.specs.declared.token.Token.TheVariants.{Name, And, Or, Open, Close}
+use Rattle.formulas.specs.declared.token.Token.TheVariants.{And, Or, Close}
 
 pub or_no_and : (us : List Token) → NotFirst And (Or ∷ us)
 or_no_and us vs e = let z : ◌≡◌ {A = ℕ} 0 1 = cc in omega arith

@@ -1,5 +1,5 @@
 -- What a reader may conclude from what the readers that it called found.
-use Rattle.std.proofs.Common.{◌≡◌, ℕ, true, false, ◌⊎◌, List, [], ◌∷◌, is_some, IfOk, Some, None, Ok, Err, Option, Result, sym, refl, ◌∙◌, subst, inl, inr, ⊎_elim, arith, MatchResult}
+use Rattle.std.proofs.Common.{◌≡◌, ℕ, true, false, ◌⊎◌, List, [], ◌∷◌, is_some, IfOk, Some, None, Ok, Err, Option, Result, sym, refl, subst, inl, inr, ⊎_elim, arith, MatchResult}
 use Rattle.std.specs.declared.alloc.AllocError.{AllocError}
 use Rattle.formulas.specs.Grammar.{Level, formula, term, factor, Reads, one_term, more_terms, one_factor, more_factors, name, bracketed, Forms, Admitted, Taken, Refused, Unambiguous}
 use Rattle.formulas.specs.Items.{NextToken}

@@ -1,5 +1,5 @@
 -- What the readers of formulas, terms and factors find in the words that stand before them.
-use Rattle.std.specs.Prelude.{◌≡◌, ℕ, ◌<◌, ◌≤◌, List, [], ◌∷◌, length, IfOk, Some, None, Option, ◌≢◌}
+use Rattle.std.specs.Prelude.{◌≡◌, ℕ, ◌<◌, ◌≤◌, List, ◌∷◌, length, IfOk, Some, None, Option, ◌≢◌}
 use Rattle.formulas.specs.Grammar.{Level, formula, term, factor, Reads}
 use Rattle.models.specs.Trees.{Tree, shape}
 use Rattle.formulas.specs.Words.{Tokens}

@@ -1,5 +1,5 @@
 -- A formula text as words and signs: which stand in it, and which of its bytes are unknown.
-use Rattle.std.specs.Prelude.{◌≡◌, ℕ, suc, ◌+◌, ◌-◌, ◌<◌, ◌≤◌, Bool, true, false, ◌||◌, List, [], ◌∷◌, length, take, Some, None, codes, count_by, Option, ◌==◌, ◌≢◌, nat_eq, slice_index, slice_range}
+use Rattle.std.specs.Prelude.{◌≡◌, ℕ, ◌+◌, ◌<◌, ◌≤◌, Bool, true, false, ◌||◌, List, [], ◌∷◌, length, take, Some, None, codes, count_by, Option, ◌==◌, ◌≢◌, nat_eq, slice_index, slice_range}
 use Rattle.std.specs.Char.{is_ascii_alphabetic}
 use Rattle.formulas.specs.declared.token.Token.{Token}
 use Rattle.formulas.specs.declared.token.Token.TheVariants.{Name, And, Or, Open, Close}

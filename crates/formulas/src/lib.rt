@@ -1,4 +1,6 @@
 // Formula texts read as models.
+#![tactic(auto)]
+
 mod depth;
 mod lexer;
 mod reader;

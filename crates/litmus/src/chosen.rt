@@ -4,10 +4,7 @@ ghost use Rattle.litmus.specs.declared.request.Choice.TheVariants.{Name, Formula
 
 use crate::request::Choice;
 use formulas::parse;
-use models::{
-    Both, BothModel, Either, EitherModel, FormulaModel, Named, NamedModel, Refusal, Summary, Table,
-    TableModel, summarize,
-};
+use models::{Both, Either, Named, Refusal, Summary, Table, summarize};
 use std::alloc::Global;
 
 fn by_name(name: &str) -> Result<Summary, Refusal>

@@ -1,4 +1,6 @@
 // The command `litmus`.
+#![tactic(auto)]
+
 mod chosen;
 mod request;
 
@@ -7,9 +9,10 @@ ghost use Rattle.litmus.specs.Requests.{shown, refusal_line};
 
 use anyhow::anyhow;
 use chosen::summary_of;
-use models::{Cell, Named, NamedModel, Refusal, Summary, summarize};
+use models::{Cell, Named, Refusal, Summary, summarize};
 use request::{Request, read_request};
 use std::alloc::{AllocError, Global};
+use std::process::ExitCode;
 use std::{env, io};
 use theorems::verdicts;
 
@@ -131,7 +134,7 @@ fn answer(rt: &HostRuntime, request: Request<'_>) -> anyhow::Result<()> {
     Ok(())
 }
 
-fn main(rt: HostRuntime) -> anyhow::Result<()> {
+fn main(rt: HostRuntime) -> anyhow::Result<ExitCode> {
     let heap = rt.alloc();
     let mut args = Vec::new(heap);
     for arg in env::args(&rt)?.skip(1) {
@@ -142,10 +145,13 @@ fn main(rt: HostRuntime) -> anyhow::Result<()> {
         words.push(arg.as_str())?;
     }
     match read_request(words.as_slice()) {
-        Some(request) => answer(&rt, request),
+        Some(request) => {
+            answer(&rt, request)?;
+            Ok(ExitCode::SUCCESS)
+        }
         None => {
             rt.eprint(USAGE)?;
-            Err(anyhow!("wrong usage"))
+            Ok(ExitCode::FAILURE)
         }
     }
 }

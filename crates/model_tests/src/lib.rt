@@ -1,3 +1,5 @@
 // Tests of the crate `models`.
+#![tactic(auto)]
+
 #[cfg(test)]
 mod tests;

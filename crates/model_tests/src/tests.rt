@@ -1,9 +1,6 @@
 // Formula texts at each limit, tables, names and pairs.
 use formulas::{formula_text, parse};
-use models::{
-    Both, BothModel, Either, EitherModel, Facts, FormulaModel, Kind, Model, Named, NamedModel,
-    Refusal, Table, TableModel,
-};
+use models::{Both, Either, Facts, Kind, Model, Named, Refusal, Table};
 use std::alloc::Global;
 use std::test::Fail;
 

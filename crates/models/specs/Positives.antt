@@ -1,10 +1,9 @@
 -- A formula has no "not", so what it makes true stays true when a fact turns from no to yes.
-use Rattle.std.specs.Prelude.{◌≡◌, Bool, true, ◌&&◌, ◌||◌, refl}
+use Rattle.std.specs.Prelude.{◌≡◌, true, refl}
 use Rattle.std.proofs.Common.{⊎_elim, subst}
 use Rattle.std.proofs.lemmas.Bool.{and_parts, and_from, or_cases, or_left, or_right}
-use Rattle.models.specs.Facts.{Grows, Positive, same}
+use Rattle.models.specs.Facts.{Positive, same}
 use Rattle.models.specs.Trees.{Tree, word, both, either, word_holds, holds}
-use Rattle.models.specs.declared.facts.Facts.{Facts}
 use Rattle.models.specs.declared.facts.Kind.{Kind}
 use Rattle.models.specs.declared.facts.Kind.TheVariants.{Read, Write, Fence}
 use Rattle.models.specs.declared.formula.Word.{Word}

@@ -7,7 +7,7 @@ ghost use Rattle.models.specs.Refusals.{told, numbered};
 ghost use Rattle.models.specs.Positives;
 
 use crate::facts::{Facts, KINDS};
-use crate::model::Model;
+use crate::model::Model as MemoryModel;
 use crate::refusal::Refusal;
 use crate::table::{Cell, Row, Table};
 
@@ -137,7 +137,7 @@ impl Named {
 }
 
 // A named model means its formula, and answers by its table.
-pub impl Model for Named as NamedModel {
+impl MemoryModel for Named {
     ghost meaning = { λ n. holds (formula_of n) };
 
     ghost positive = { λ n. Positives.positive (formula_of n) };

@@ -4,7 +4,7 @@ ghost use Rattle.models.specs.Trees.{word_holds, holds, shape};
 ghost use Rattle.models.specs.Positives;
 
 use crate::facts::{Facts, Kind};
-use crate::model::Model;
+use crate::model::Model as MemoryModel;
 
 // A word of a formula. `x` is the earlier instruction of a pair, `y` the later one.
 #[derive(Clone, Copy, PartialEq, Eq)]
@@ -64,7 +64,7 @@ impl Formula {
     }
 }
 
-pub impl Model for Formula as FormulaModel {
+impl MemoryModel for Formula {
     ghost meaning = { λ m. holds (shape m) };
 
     ghost positive = { λ m. Positives.positive (shape m) };

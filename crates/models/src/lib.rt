@@ -1,4 +1,6 @@
 // Models of what a processor may not reorder.
+#![tactic(auto)]
+
 mod by_name;
 mod facts;
 mod formula;

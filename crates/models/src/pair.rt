@@ -4,7 +4,7 @@ ghost use Rattle.models.specs.Pairs.{union, intersection};
 ghost use Rattle.std.proofs.Common.{rules};
 
 use crate::facts::Facts;
-use crate::model::Model;
+use crate::model::Model as MemoryModel;
 
 // Keeps what the first or the second keeps.
 #[derive(Drop)]
@@ -13,8 +13,8 @@ pub struct Either<A, B> {
     pub second: B,
 }
 
-pub impl<A: Model, B: Model> Model for Either<A, B> as EitherModel {
-    ghost meaning = { λ m. union (A.Model.meaning m.first) (B.Model.meaning m.second) };
+impl<A: MemoryModel, B: MemoryModel> MemoryModel for Either<A, B> {
+    ghost meaning = { λ m. union (A.meaning m.first) (B.meaning m.second) };
 
     ghost positive = { Prim.search rules };
 
@@ -30,8 +30,8 @@ pub struct Both<A, B> {
     pub second: B,
 }
 
-pub impl<A: Model, B: Model> Model for Both<A, B> as BothModel {
-    ghost meaning = { λ m. intersection (A.Model.meaning m.first) (B.Model.meaning m.second) };
+impl<A: MemoryModel, B: MemoryModel> MemoryModel for Both<A, B> {
+    ghost meaning = { λ m. intersection (A.meaning m.first) (B.meaning m.second) };
 
     ghost positive = { Prim.search rules };
 

@@ -6,7 +6,7 @@ ghost use Rattle.models.specs.Tables.{cell_number, cell_keeps, cell_of, table_ke
 ghost use Rattle.std.proofs.Common.{rules};
 
 use crate::facts::{Facts, KINDS, Kind};
-use crate::model::Model;
+use crate::model::Model as MemoryModel;
 use crate::refusal::Refusal;
 
 // When a pair of the row's and the column's kinds is kept.
@@ -96,7 +96,7 @@ impl Table {
     }
 }
 
-pub impl Model for Table as TableModel {
+impl MemoryModel for Table {
     ghost meaning = { table_keeps };
 
     ghost positive = { Prim.search rules };

@@ -1,5 +1,5 @@
 -- What the accesses of a test tell.
-use Rattle.std.proofs.Common.{◌≡◌, ℕ, ◌<◌, ◌≤◌, Bool, true, false, eqb, ◌⊎◌, List, length, sym, refl, ap, ◌∙◌, subst, ⊎_elim, arith}
+use Rattle.std.proofs.Common.{◌≡◌, ℕ, ◌<◌, ◌≤◌, Bool, true, false, eqb, ◌⊎◌, List, length, sym, ap, ◌∙◌, ⊎_elim, arith}
 use Rattle.std.proofs.lemmas.List.{get_or_past}
 use Rattle.std.proofs.lemmas.Bool.{cases_lt, eqb-true, eqb-false}
 use Rattle.models.specs.Tells.{Tells}
@@ -8,8 +8,7 @@ use Rattle.semantics.specs.Events.{access_of, access_at, Writes}
 use Rattle.semantics.specs.Lists.{Before}
 use Rattle.semantics.specs.Orders.{Visible}
 use Rattle.semantics.specs.Parts.{accesses, WritesToOne}
-use Rattle.semantics.specs.Program.{nothing, place_at, Precedes}
-use Rattle.semantics.specs.declared.access.Access.{Access}
+use Rattle.semantics.specs.Program.{nothing, Precedes}
 use Rattle.semantics.specs.declared.access.Access.TheVariants.{Reading, Writing, Neither}
 use Rattle.semantics.specs.declared.placed.Placed.{Placed}
 

@@ -1,5 +1,5 @@
 -- The latest of the visible writes, found one place after another.
-use Rattle.std.proofs.Common.{◌≡◌, ℕ, ◌+◌, ◌<◌, ◌⊎◌, List, Option, inl, inr, ⊎_elim, MatchOption}
+use Rattle.std.proofs.Common.{◌≡◌, ℕ, ◌<◌, ◌⊎◌, List, Option, MatchOption}
 use Rattle.semantics.specs.Events.{Events}
 use Rattle.semantics.specs.Lists.{Before}
 use Rattle.semantics.specs.Orders.{Visible}

@@ -1,6 +1,6 @@
 -- What a read sees in an order, and what that rests on.
-use Rattle.std.proofs.Common.{◌≡◌, ℕ, ◌+◌, ◌<◌, Bool, true, false, eqb, ◌⊎◌, List, [], length, get_or, Some, None, Option, sym, refl, ap, ◌∙◌, subst, subst₂, inl, inr, ⊎_elim, arith, below_more}
-use Rattle.std.proofs.lemmas.Bool.{cases_eq, eqb-true, eqb-false}
+use Rattle.std.proofs.Common.{◌≡◌, ℕ, ◌+◌, ◌<◌, Bool, true, false, eqb, ◌⊎◌, List, [], length, get_or, Some, None, Option, sym, refl, subst, subst₂, inl, inr, ⊎_elim, arith, below_more}
+use Rattle.std.proofs.lemmas.Bool.{eqb-true, eqb-false}
 use Rattle.models.specs.Tells.{Tells}
 use Rattle.models.specs.declared.Facts.{Facts}
 use Rattle.semantics.specs.Events.{events_of, access_at, Reads, Writes}
@@ -11,7 +11,7 @@ use Rattle.semantics.specs.Program.{Precedes}
 use Rattle.semantics.specs.declared.access.Access.TheVariants.{Reading}
 use Rattle.semantics.specs.declared.placed.Placed.{Placed}
 use Rattle.semantics.proofs.Accessing.{reading}
-use Rattle.semantics.proofs.Latests.{IsLatestBelow, LatestBelow}
+use Rattle.semantics.proofs.Latests.{LatestBelow}
 use Rattle.semantics.proofs.Standing.{before_then, not_both_ways, either_way}
 
 -- neither the initial values nor the model have a part in what is visible, or the latest

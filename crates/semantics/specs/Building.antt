@@ -1,5 +1,5 @@
 -- How a test is made, call by call: what is done, and what is refused.
-use Rattle.std.specs.Prelude.{◌≡◌, ℕ, ◌-◌, ◌<◌, ◌≤◌, List, [], ◌∷◌, ◌++◌, length, take, Some, None, Option, slice_set}
+use Rattle.std.specs.Prelude.{◌≡◌, ℕ, ◌-◌, ◌<◌, ◌≤◌, List, [], ◌∷◌, ◌++◌, length, take, Some, None, slice_set}
 use Rattle.models.specs.declared.Kind.TheVariants.{Read}
 use Rattle.semantics.specs.Bounds.{InBounds, RoomFor}
 use Rattle.semantics.specs.Contents.{places_of, initial_of}

@@ -1,11 +1,10 @@
 -- A parallel program: instructions by place, each with its thread.
-use Rattle.std.specs.Prelude.{◌≡◌, ℕ, ◌<◌, ◌⊎◌, List, [], length, Some, None, Option, ◌≢◌, slice_index_or}
+use Rattle.std.specs.Prelude.{◌≡◌, ℕ, ◌<◌, ◌⊎◌, List, length, Some, None, Option, ◌≢◌, slice_index_or}
 use Rattle.models.specs.declared.Kind.{Kind}
 use Rattle.models.specs.declared.Kind.TheVariants.{Read as ReadKind, Write as WriteKind, Fence as FenceKind, Arithmetic, Branch as BranchKind}
 use Rattle.semantics.specs.declared.instruction.Instruction.{Instruction}
 use Rattle.semantics.specs.declared.instruction.Instruction.TheVariants.{Read, Write, Fence, Sum, Difference, Branch}
-use Rattle.semantics.specs.declared.instruction.Stored.{Stored}
-use Rattle.semantics.specs.declared.instruction.Stored.TheVariants.{Constant, Register}
+use Rattle.semantics.specs.declared.instruction.Stored.TheVariants.{Register}
 use Rattle.semantics.specs.declared.placed.Placed.{Placed}
 
 abbrev pub kind_of : Instruction → Kind

@@ -1,4 +1,6 @@
 // Small parallel programs, and what an outcome of one is.
+#![tactic(auto)]
+
 mod access;
 mod bounds;
 mod building;

@@ -11,7 +11,7 @@ const REGISTERS: usize = 256;
 
 // What an instruction puts into its target, where the registers hold this: a read yields its expected value.
 fn result_of(placed: Placed, registers: &[u8; REGISTERS]) -> u8
-    ensures* { λ r. ⌜ ((held : ℕ → ℕ) → ((k : ℕ) → k < 256 → slice_index registers.now k ≡ held k) → r ≡ result placed.instruction placed.expected held) ⌝ }
+    ensures { (held : ℕ → ℕ) → ((k : ℕ) → k < 256 → slice_index registers.now k ≡ held k) → result ≡ result_of placed.instruction placed.expected held }
 {
     match placed.instruction {
         Instruction::Read { .. } => placed.expected.unwrap_or(0),
@@ -27,7 +27,7 @@ fn result_of(placed: Placed, registers: &[u8; REGISTERS]) -> u8
 
 // What the registers of a thread hold once it has run its instructions at the first `end` places.
 fn registers_at(places: &[Placed], thread: u8, end: usize) -> [u8; REGISTERS]
-    ensures* { λ r. ⌜ (length r ≡ 256) × ((k : ℕ) → k < 256 → slice_index r k ≡ held places.now thread end k) ⌝ }
+    ensures { (length result ≡ 256) × ((k : ℕ) → k < 256 → slice_index result k ≡ held places.now thread end k) }
 {
     let mut registers = [0; REGISTERS];
     for place in 0..end {
@@ -43,7 +43,7 @@ fn registers_at(places: &[Placed], thread: u8, end: usize) -> [u8; REGISTERS]
 
 // The value that the instruction at this place stores, if it is a write.
 pub(crate) fn value_at(places: &[Placed], place: usize) -> Option<u8>
-    ensures* { λ r. ⌜ r ≡ stores places.now place (instruction_at places.now place) ⌝ }
+    ensures { result ≡ stores places.now place (instruction_at places.now place) }
 {
     let placed = place_at(places, place);
     match placed.instruction {
@@ -60,7 +60,7 @@ pub(crate) fn value_at(places: &[Placed], place: usize) -> Option<u8>
 
 // The initial value of a location.
 pub(crate) fn initial_at(initial: &[u8], location: u8) -> u8
-    ensures* { λ r. ⌜ r ≡ slice_index initial.now location ⌝ }
+    ensures { result ≡ slice_index initial.now location }
 {
     let location = location as usize;
     if location < initial.len() {

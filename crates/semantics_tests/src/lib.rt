@@ -1,3 +1,5 @@
 // Tests of the crate `semantics`.
+#![tactic(auto)]
+
 #[cfg(test)]
 mod tests;

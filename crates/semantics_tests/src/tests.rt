@@ -1,5 +1,5 @@
 // Each limit at the last size taken and the first refused, values, facts and orders.
-use models::{Named, NamedModel};
+use models::Named;
 use semantics::{Access, Instruction, LOCATIONS, PLACES, Refusal, Stored, Test};
 
 // The number of a refusal, and 0 where there is none.

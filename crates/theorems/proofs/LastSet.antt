@@ -1,8 +1,8 @@
 -- A register holds what the last instruction to set it put there.
-use Rattle.std.proofs.Common.{◌≡◌, ℕ, zero, suc, ◌<◌, Bool, true, false, cond, ◌&&◌, eqb, List, length, Some, None, Option, sym, refl, ap, ◌∙◌, subst, ⊎_elim, arith}
+use Rattle.std.proofs.Common.{◌≡◌, ℕ, zero, suc, ◌<◌, true, false, List, Some, None, Option, sym, refl, ap, ◌∙◌, subst, ⊎_elim, arith}
 use Rattle.std.proofs.lemmas.Bool.{and_parts, and_from, cases_Bool, cases_eq, cond-true, cond-false, eqb-true, eq-eqb}
 use Rattle.semantics.specs.PairFacts.{Sets}
-use Rattle.semantics.specs.Program.{target_of, place_at, instruction_at, thread_at}
+use Rattle.semantics.specs.Program.{place_at, instruction_at, thread_at}
 use Rattle.semantics.specs.Values.{held, result_of, sets_register, is_target}
 use Rattle.semantics.specs.declared.Placed.{Placed}
 use Rattle.theorems.specs.Statements.{Registers}

@@ -1,4 +1,6 @@
 // What is true of every test and every model: each theorem is the contract of a function.
+#![tactic(auto)]
+
 mod laws;
 mod witness;
 mod worked;

@@ -2,11 +2,11 @@
 use Rattle.std.proofs.Common.{◌+◌, ◌-◌, ◌*◌, length}
 use Rattle.formulas.proofs.reader.+read_factor_read_formula_read_term.Given as goal
 
-abbrev pub decreases-read-factor : goal.decreases-read-factor
-decreases-read-factor l = 3 * (length l.text.now - l.at)
+abbrev pub decreases-read_factor : goal.decreases-read_factor
+decreases-read_factor l = 3 * (length l.text.now - l.at)
 
-abbrev pub decreases-read-formula : goal.decreases-read-formula
-decreases-read-formula l = 3 * (length l.text.now - l.at) + 2
+abbrev pub decreases-read_formula : goal.decreases-read_formula
+decreases-read_formula l = 3 * (length l.text.now - l.at) + 2
 
-abbrev pub decreases-read-term : goal.decreases-read-term
-decreases-read-term l = 3 * (length l.text.now - l.at) + 1
+abbrev pub decreases-read_term : goal.decreases-read_term
+decreases-read_term l = 3 * (length l.text.now - l.at) + 1

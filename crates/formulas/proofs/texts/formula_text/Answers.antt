@@ -6,6 +6,6 @@ use Rattle.formulas.proofs.texts.formula_text.Goals as goal
 
 pub returns : goal.returns
 returns c = record {
-  text = c.constant-text.ensures;
-  means = subst (λ (s : List ℕ). Forms s (formula_of c.args.model)) (sym c.constant-text.ensures) (forms c.args.model);
+  text = c.constant_text.ensures;
+  means = subst (λ (s : List ℕ). Forms s (formula_of c.args.model)) (sym c.constant_text.ensures) (forms c.args.model);
 }

@@ -3,12 +3,12 @@ use Rattle.litmus.proofs.Words.{past, after, one_word, two_words, three_words, m
 use Rattle.litmus.proofs.request.read_choice.Goals as goal
 use Rattle.litmus.specs.Requests.{texts}
 
-pub returns-in-err-table : goal.returns-in-err-table
-returns-in-err-table c =
+pub returns-in_err-table-in-table : goal.returns-in_err-table-in-table
+returns-in_err-table-in-table c =
     let some : 0 < length c.args.words.now = search rules in
     let two : 1 < length c.args.words.now = omega (arith, ltb-true, ltb-false) in
     let is : (get_or c.args.words.now 0 past).now ≡ codes "table" = search rules in
-    rw (c.from-residual.ensures, more_words c.args.words.now some, is) (no_table _ (some_after c.args.words.now two) c.in-err-table.ensures)
+    rw (c.from_residual.ensures, more_words c.args.words.now some, is) (no_table _ (some_after c.args.words.now two) c.in_err-table-in-table.ensures)
 
 pub returns-in-len1 : goal.returns-in-len1
 returns-in-len1 c =
@@ -25,11 +25,11 @@ returns-in-len3 c =
     let three : length c.args.words.now ≡ 3 = omega (arith, ltb-true, ltb-false) in
     rw (three_words c.args.words.now three) c.pair.ensures
 
-pub returns-in-ok-table : goal.returns-in-ok-table
-returns-in-ok-table c =
+pub returns-in_ok-table-in-table : goal.returns-in_ok-table-in-table
+returns-in_ok-table-in-table c =
     let some : 0 < length c.args.words.now = search rules in
     let is : (get_or c.args.words.now 0 past).now ≡ codes "table" = search rules in
-    (texts (after c.args.words.now), rw (more_words c.args.words.now some, is), c.in-ok-table.ensures)
+    (texts (after c.args.words.now), rw (more_words c.args.words.now some, is), c.in_ok-table-in-table.ensures)
 
-pub returns-in-default : goal.returns-in-default
-returns-in-default c = none_asked c.args.words.now (search rules) (search rules) (search rules) (search rules)
+pub returns-in_default : goal.returns-in_default
+returns-in_default c = none_asked c.args.words.now (search rules) (search rules) (search rules) (search rules)

@@ -3,11 +3,11 @@ use Rattle.litmus.proofs.Words.{past, after, one_word, more_words, no_choice, no
 use Rattle.litmus.proofs.request.read_request.Goals as goal
 use Rattle.litmus.specs.Requests.{texts}
 
-pub returns-in-err-read-choice : goal.returns-in-err-read-choice
-returns-in-err-read-choice c =
+pub returns-in_err-read_choice-in-keeps : goal.returns-in_err-read_choice-in-keeps
+returns-in_err-read_choice-in-keeps c =
     let some : 0 < length c.args.words.now = search rules in
     let is : (get_or c.args.words.now 0 past).now ≡ codes "keeps" = search rules in
-    rw (c.from-residual.ensures, more_words c.args.words.now some, is) (no_choice _ c.in-err-read-choice.ensures)
+    rw (c.from_residual.ensures, more_words c.args.words.now some, is) (no_choice _ c.in_err-read_choice-in-keeps.ensures)
 
 pub returns-in-help : goal.returns-in-help
 returns-in-help c =
@@ -24,11 +24,11 @@ returns-in-examples c =
     let one : length c.args.words.now ≡ 1 = omega (arith, ltb-true, ltb-false) in
     rw (one_word c.args.words.now one, c.in-examples.is-examples)
 
-pub returns-in-ok-read-choice : goal.returns-in-ok-read-choice
-returns-in-ok-read-choice c =
+pub returns-in_ok-read_choice-in-keeps : goal.returns-in_ok-read_choice-in-keeps
+returns-in_ok-read_choice-in-keeps c =
     let some : 0 < length c.args.words.now = search rules in
     let is : (get_or c.args.words.now 0 past).now ≡ codes "keeps" = search rules in
-    (texts (after c.args.words.now), rw (more_words c.args.words.now some, is), c.in-ok-read-choice.ensures)
+    (texts (after c.args.words.now), rw (more_words c.args.words.now some, is), c.in_ok-read_choice-in-keeps.ensures)
 
-pub returns-in-default : goal.returns-in-default
-returns-in-default c = none_requested c.args.words.now (search rules) (search rules) (search rules) (search rules)
+pub returns-in_default : goal.returns-in_default
+returns-in_default c = none_requested c.args.words.now (search rules) (search rules) (search rules) (search rules)

@@ -4,12 +4,12 @@ use Rattle.semantics.proofs.Naming.{below, either_named, told_of}
 use Rattle.semantics.proofs.bounds.named_in_bounds.Goals as goal
 
 pub returns-in-Read : goal.returns-in-Read
-returns-in-Read c = told_of _ _ _ c.in-Read.is c.address-in-bounds.ensures
+returns-in-Read c = told_of _ _ _ c.in-Read.is c.address_in_bounds.ensures
 
 pub returns-in-Write : goal.returns-in-Write
 returns-in-Write c =
     told_of _ _ _ c.in-Write.is
-    (either_named _ _ (λ r. c.in-Write.stored ≡ Register r) (λ r. c.in-Write.address ≡ Some r) c.stored-in-bounds.ensures c.address-in-bounds-in-Write.ensures)
+    (either_named _ _ (λ r. c.in-Write.stored ≡ Register r) (λ r. c.in-Write.address ≡ Some r) c.stored_in_bounds.ensures c.address_in_bounds-in-Write.ensures)
 
 pub returns-in-Sum : goal.returns-in-Sum
 returns-in-Sum c =

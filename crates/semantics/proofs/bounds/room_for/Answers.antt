@@ -3,7 +3,6 @@ use Rattle.std.proofs.lemmas.Bool.{ltb-true, ltb-false, eqb-true, eq-eqb}
 use Rattle.models.specs.Tells.{Tells}
 use Rattle.semantics.specs.Bounds.{is_write_to, write_count, RoomFor}
 use Rattle.semantics.specs.declared.instruction.Instruction.{Instruction}
-use Rattle.semantics.specs.declared.instruction.Instruction.TheVariants.{Write}
 use Rattle.semantics.specs.declared.placed.Placed.{Placed}
 use Rattle.semantics.proofs.bounds.room_for.Goals as goal
 
@@ -14,4 +13,4 @@ compared ps i l n at_own e false t = λ room. omega (arith, room l (at_own l ∙
 
 pub returns-in-Write : goal.returns-in-Write
 returns-in-Write c =
-    compared c.args.places.now c.args.instruction c.in-Write.location c.write-count.result (λ k. ap (is_write_to k) c.in-Write.is) c.write-count.ensures _ refl
+    compared c.args.places.now c.args.instruction c.in-Write.location c.write_count.result (λ k. ap (is_write_to k) c.in-Write.is) c.write_count.ensures _ refl

@@ -1,4 +1,4 @@
-use Rattle.std.proofs.Common.{◌≡◌, ℕ, ◌+◌, Some, None, Option, sym, subst, arith}
+use Rattle.std.proofs.Common.{ℕ, ◌+◌, Option, sym, subst}
 use Rattle.semantics.specs.Parts.{accesses}
 use Rattle.semantics.proofs.Latests.{LatestBelow}
 use Rattle.semantics.proofs.Seeing.{latest_more, latest_same}
@@ -12,6 +12,6 @@ loop-w-preserved c =
     let n = c.loop-w.w in
     let P : Option ℕ → Type 0 = LatestBelow (accesses ps) o c.args.r c.args.location (n + 1) in
     elim c.if-visible.branch [
-      | then-visible w ↦ subst P (sym w.latest-is) (latest_more ps o c.requires c.args.r c.args.location n c.loop-w.latest w.later-of.result c.loop-w-test.true c.loop-w.invariant w.if-visible.ensures w.later-of.ensures)
+      | then-visible w ↦ subst P (sym w.latest-is) (latest_more ps o c.requires c.args.r c.args.location n c.loop-w.latest w.later_of.result c.loop-w-test.true c.loop-w.invariant w.if-visible.ensures w.later_of.ensures)
       | else-visible w ↦ subst P (sym w.latest-is) (latest_same ps o c.requires c.args.r c.args.location n c.loop-w.latest c.loop-w.invariant w.if-visible.ensures)
     ]

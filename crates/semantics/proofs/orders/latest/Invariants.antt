@@ -1,8 +1,5 @@
 -- the latest of the visible writes below w
-use Rattle.std.proofs.Common.{◌≡◌, ℕ, ◌<◌, ◌⊎◌, MatchOption}
 use Rattle.semantics.specs.Parts.{accesses}
-use Rattle.semantics.specs.Lists.{Before}
-use Rattle.semantics.specs.Orders.{Visible}
 use Rattle.semantics.proofs.Latests.{LatestBelow}
 use Rattle.semantics.proofs.orders.latest.Given as goal
 

@@ -5,7 +5,7 @@ use Rattle.semantics.proofs.Seeing.{no_read}
 use Rattle.semantics.proofs.orders.reads_stand.Goals as goal
 
 pub loop-r-preserved : goal.loop-r-preserved
-loop-r-preserved c = below_more _ _ c.loop-r.invariant c.if-not-read-stands.ensures
+loop-r-preserved c = below_more _ _ c.loop-r.invariant c.if-not-read_stands.ensures
 
 pub returns : goal.returns
 returns c r =

@@ -1,6 +1,5 @@
-use Rattle.std.proofs.Common.{◌≡◌}
 use Rattle.theorems.proofs.OrderToChoice.{order_to_choice}
-use Rattle.theorems.proofs.Tested.{Tested, from_test}
+use Rattle.theorems.proofs.Tested.{from_test}
 use Rattle.theorems.proofs.witness.witnesses.Goals as goal
 
 pub returns : goal.returns

@@ -4,4 +4,4 @@ use Rattle.theorems.proofs.Table.{verdicts}
 use Rattle.theorems.proofs.worked.further_verdicts.Goals as goal
 
 pub returns : goal.returns
-returns c = verdicts further_examples _ refl c.further-rows.ensures
+returns c = verdicts further_examples _ refl c.further_rows.ensures

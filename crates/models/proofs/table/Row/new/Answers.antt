@@ -7,5 +7,5 @@ use Rattle.models.proofs.table.Row.new.Goals as goal
 pub loop-column-preserved : goal.loop-column-preserved
 loop-column-preserved c = (
   length-set _ _ _ ∙ c.loop-column.invariant.0,
-  filled (λ k x. cell_number x ≡ get_or c.args.numbers k 0) _ _ _ Free (omega arith) c.loop-column.invariant.1 c.in-ok-cells.ensures,
+  filled (λ k x. cell_number x ≡ get_or c.args.numbers k 0) _ _ _ Free (omega arith) c.loop-column.invariant.1 c.in_ok-cells.ensures,
 )

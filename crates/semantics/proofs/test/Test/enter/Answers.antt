@@ -1,4 +1,4 @@
-use Rattle.std.proofs.Common.{◌≡◌, ◌+◌, ◌<◌, List, [], ◌∷◌, ◌++◌, length, take, set, sym, refl, ◌∙◌, subst, arith, length-set}
+use Rattle.std.proofs.Common.{◌≡◌, ◌+◌, ◌<◌, List, [], ◌∷◌, ◌++◌, take, set, sym, refl, ◌∙◌, subst, arith, length-set}
 use Rattle.std.proofs.lemmas.List.{take_more_set}
 use Rattle.semantics.specs.Bounds.{RoomFor}
 use Rattle.semantics.specs.Building.{entered}
@@ -16,15 +16,24 @@ grown t p h = take_more_set t.slots t.len p (omega (arith, t.room))
 pub bounds-self-place : goal.bounds-self-place
 bounds-self-place c = c.if-place-ge-PLACES.false
 
-pub invariant-of-self : goal.invariant-of-self
-invariant-of-self c =
+pub invariant_of-self : goal.invariant_of-self
+invariant_of-self c =
     let t : Test = c.args.self.now in
     let i : Instruction = c.args.instruction in
     let p : Placed = entered c.args.thread i in
-    let room : RoomFor (places_of t) i = subst (λ (ps : List Placed). RoomFor ps i) c.places.ensures c.if-not-room-for.ensures in
+    let room : RoomFor (places_of t) i = subst (λ (ps : List Placed). RoomFor ps i) c.places.ensures c.if-not-room_for.ensures in
     let s : Sound (take (t.len + 1) (set t.slots t.len p)) =
-    subst Sound (sym (grown t p c.if-place-ge-PLACES.false)) (sound_push (places_of t) (sound_of t) p (omega arith) c.if-not-in-bounds.ensures room) in
-    (length-set _ _ _ ∙ t.room, (omega arith, (t.locations, (s.threads, (s.accessed, (s.targets, (s.named, (s.few, tt))))))))
+    subst Sound (sym (grown t p c.if-place-ge-PLACES.false)) (sound_push (places_of t) (sound_of t) p (omega arith) c.if-not-in_bounds.ensures room) in
+    record {
+      room = length-set _ _ _ ∙ t.room;
+      short = omega arith;
+      locations = t.locations;
+      threads = s.threads;
+      accessed = s.accessed;
+      targets = s.targets;
+      named = s.named;
+      few = s.few;
+    }
 
 pub returns : goal.returns
 returns c =
@@ -34,9 +43,9 @@ returns c =
     record {
       could = record {
         thread = c.if-thread-gt3.false;
-        bounds = c.if-not-in-bounds.ensures;
+        bounds = c.if-not-in_bounds.ensures;
         place = omega (arith, length_of t);
-        writes = subst (λ (ps : List Placed). RoomFor ps i) c.places.ensures c.if-not-room-for.ensures;
+        writes = subst (λ (ps : List Placed). RoomFor ps i) c.places.ensures c.if-not-room_for.ensures;
       };
       place = sym (length_of t);
       places = grown t p c.if-place-ge-PLACES.false;

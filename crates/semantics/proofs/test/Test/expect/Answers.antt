@@ -46,18 +46,27 @@ bounds-self-place c =
     let t : Test = c.args.self.now in
     omega (arith, held t c.args.place c.args.value _ c.places.ensures _ c.in-Some.ensures, t.short)
 
-pub offset-bounds-self-place : goal.offset-bounds-self-place
-offset-bounds-self-place c =
+pub offset_bounds-self-place : goal.offset_bounds-self-place
+offset_bounds-self-place c =
     let t : Test = c.args.self.now in
     let low = held t c.args.place c.args.value _ c.places.ensures _ c.in-Some.ensures in
     let short = t.short in
     search rules
 
-pub invariant-of-self : goal.invariant-of-self
-invariant-of-self c =
+pub invariant_of-self : goal.invariant_of-self
+invariant_of-self c =
     let t : Test = c.args.self.now in
     let s = sound t c.args.place c.args.value _ c.places.ensures _ c.in-Some.ensures in
-    (length-set _ _ _ ∙ t.room, (t.short, (t.locations, (s.threads, (s.accessed, (s.targets, (s.named, (s.few, tt))))))))
+    record {
+      room = length-set _ _ _ ∙ t.room;
+      short = t.short;
+      locations = t.locations;
+      threads = s.threads;
+      accessed = s.accessed;
+      targets = s.targets;
+      named = s.named;
+      few = s.few;
+    }
 
 pub returns : goal.returns
 returns c =
