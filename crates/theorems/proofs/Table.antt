@@ -3,7 +3,7 @@ use Rattle.std.proofs.Common.{◌≡◌, Bool, List, [], ◌∷◌, map, subst}
 use Rattle.models.specs.Named.{all_named, formula_of}
 use Rattle.models.specs.Trees.{holds}
 use Rattle.models.specs.declared.Named.{Named}
-use Rattle.std.specs.List.{AllByRecursion as All}
+use Rattle.std.specs.List.{AllByRecursion}
 use Rattle.theorems.specs.Examples.{Example, under, Answers, marks_of, Verdicts}
 use Rattle.theorems.proofs.Bridging.{bridge}
 use Rattle.theorems.proofs.Computed.{dec_kept}
@@ -24,7 +24,7 @@ told x (n ∷ ns) =
     let agree = bridge (under x n) (dec_kept (holds (formula_of n)) x.places) in
     ((tested_again agree.1 agree.0 orders).tells, (orders.tells, told x ns))
 
-all_told : (xs : List Example) → map answers xs ≡ marks_of xs → All (λ x. Answers x all_named x.marks) xs
+all_told : (xs : List Example) → map answers xs ≡ marks_of xs → AllByRecursion (λ x. Answers x all_named x.marks) xs
 all_told [] e = tt
 all_told (x ∷ xs) e =
     let first : answers x ≡ x.marks = cc in

@@ -1,6 +1,6 @@
 -- Examples, with what is said of each under SC, IBM370, TSO and RMO.
 use Rattle.std.specs.Prelude.{◌≡◌, ℕ, Bool, true, false, List, [], ◌∷◌, map, Some, None}
-use Rattle.std.specs.List.{AllByRecursion as All}
+use Rattle.std.specs.List.{AllByRecursion}
 use Rattle.models.specs.Named.{all_named, formula_of}
 use Rattle.models.specs.Tells.{Tells}
 use Rattle.models.specs.Trees.{holds}
@@ -142,4 +142,4 @@ marks_of xs = map (λ x. x.marks) xs
 -- the rows are the marks of the examples, and each example is marked as it should be
 pub record Verdicts (xs : List Example) (rows : List (List Bool)) : Type 0 where
   pub marked : rows ≡ marks_of xs
-  pub right : All (λ x. Answers x all_named x.marks) xs
+  pub right : AllByRecursion (λ x. Answers x all_named x.marks) xs
