@@ -52,25 +52,25 @@ module _ {upper lower : Level} {sign : Token} {join : Tree → Tree → Tree} (j
   none_first s ts no_lower t us h = ⊎_elim (λ a. no_lower _ _ a.0) (λ b. no_lower _ _ b.3) (j.split h)
 
   no_rest : {ts us : List Token} {t : Tree} → Longest lower ts t (sign ∷ us) → ((u : Tree) (vs : List Token) → Longest upper us u vs → ⊥) → (u : Tree) (vs : List Token) → Longest upper ts u vs → ⊥
-  no_rest {us = us} first no-upper u vs h =
+  no_rest {us = us} first no_upper u vs h =
       ⊎_elim
       (λ a. a.1 us (sym (alike first a.0).1))
-      (λ b. no-upper _ _ (subst (λ (x : List Token). Longest upper x b.1 vs) (sym (same_rest (alike first b.3).1)) b.4))
+      (λ b. no_upper _ _ (subst (λ (x : List Token). Longest upper x b.1 vs) (sym (same_rest (alike first b.3).1)) b.4))
       (j.split h)
 
   pub none_rest : (s : List ℕ) (ts : List Token) (p : Parsed) (k : ℕ) → Finds lower s ts (Some p) → ((us : List Token) → Tokens s p.next us → AfterSign s sign us (Some k)) → ((us : List Token) → Tokens s k us → Finds upper s us None) → Finds upper s ts None
-  none_rest s ts p k (t, us, first, rest, tree) sign-next no-upper =
-      let (vs, e, next) = sign-next us rest in
-      no_rest (subst (λ (x : List Token). Longest lower ts t x) e first) (no-upper vs next)
+  none_rest s ts p k (t, us, first, rest, tree) sign_next no_upper =
+      let (vs, e, next) = sign_next us rest in
+      no_rest (subst (λ (x : List Token). Longest lower ts t x) e first) (no_upper vs next)
 
   pub found_one : (s : List ℕ) (ts : List Token) (p : Parsed) → Finds lower s ts (Some p) → ((us : List Token) → Tokens s p.next us → AfterSign s sign us None) → Finds upper s ts (Some p)
   found_one s ts p (t, us, first, rest, tree) stop = (t, us, j.one first (stop us rest), rest, tree)
 
   pub found_more : (s : List ℕ) (ts : List Token) (p q : Parsed) (k : ℕ) (r : Result Formula AllocError) → Finds lower s ts (Some p) → ((us : List Token) → Tokens s p.next us → AfterSign s sign us (Some k)) → ((us : List Token) → Tokens s k us → Finds upper s us (Some q)) → ((t u : Tree) → IfOk p.tree (λ f. shape f ≡ t) → IfOk q.tree (λ f. shape f ≡ u) → IfOk r (λ f. shape f ≡ join t u)) → Finds upper s ts (Some (record { tree = r; next = q.next }))
-  found_more s ts p q k r (t, us, first, rest, tree) sign-next upper-next both-made =
-      let (vs, e, next) = sign-next us rest in
-      let (u, ws, second, left, other) = upper-next vs next in
-      (join t u, ws, j.more (subst (λ (x : List Token). Longest lower ts t x) e first) second, left, both-made t u tree other)
+  found_more s ts p q k r (t, us, first, rest, tree) sign_next upper_next both_made =
+      let (vs, e, next) = sign_next us rest in
+      let (u, ws, second, left, other) = upper_next vs next in
+      (join t u, ws, j.more (subst (λ (x : List Token). Longest lower ts t x) e first) second, left, both_made t u tree other)
 
 factor_reads : {ts us : List Token} {t : Tree} → Reads factor ts t us → ((w : Word) × (ts ≡ Name w ∷ us)) ⊎ ((vs : List Token) × (ts ≡ Open ∷ vs) × Reads formula vs t (Close ∷ us))
 factor_reads (name {w = w}) = inl (w, refl)
@@ -78,10 +78,10 @@ factor_reads (bracketed r) = inr (_, refl, r)
 
 -- a factor is a word, or begins with a bracket
 no_factor : (s : List ℕ) (ts : List Token) → ((w : Word) (us : List Token) → ts ≡ Name w ∷ us → ⊥) → ((vs : List Token) → ts ≡ Open ∷ vs → (t : Tree) (us : List Token) → Longest formula vs t (Close ∷ us) → ⊥) → Finds factor s ts None
-no_factor s ts no_name no-bracket t us h =
+no_factor s ts no_name no_bracket t us h =
     ⊎_elim
     (λ a. no_name a.0 us a.1)
-    (λ b. no-bracket b.0 b.1 t us (record { reads = b.2; stops = close_stops us }))
+    (λ b. no_bracket b.0 b.1 t us (record { reads = b.2; stops = close_stops us }))
     (factor_reads h.reads)
 
 clash : {X : Type 0} → ◌≡◌ {A = ℕ} 0 1 → X
@@ -99,8 +99,8 @@ Next s ts t j = (us : List Token) × (ts ≡ t ∷ us) × (Tokens s j us)
 
 module _ (s : List ℕ) (ts : List Token) (first : Token) where
   pub none_other : (j : ℕ) → Next s ts first j → ((w : Word) → first ≡ Name w → ⊥) → (first ≡ Open → ⊥) → Finds factor s ts None
-  none_other j (us, e, rest) no_name no-open =
-      no_factor s ts (λ w vs f. no_name w (cc)) (λ vs f t ws h. no-open (cc))
+  none_other j (us, e, rest) no_name no_open =
+      no_factor s ts (λ w vs f. no_name w (cc)) (λ vs f t ws h. no_open (cc))
 
   pub found_name : (w : Word) → first ≡ Name w → (j : ℕ) → Next s ts first j → (t : Tree) × (us : List Token) × (Longest factor ts t us) × (Tokens s j us) × (word w ≡ t)
   found_name w is j (us, e, rest) =
@@ -119,9 +119,9 @@ module _ (s : List ℕ) (ts : List Token) (first : Token) where
     none_inside none = no_bracketed (λ t us. none next.0 next.2 t (Close ∷ us))
 
     pub none_closed : (p : Parsed) → ((us : List Token) → Tokens s j us → Finds formula s us (Some p)) → ((us : List Token) → Tokens s p.next us → AfterSign s Close us None) → Finds factor s ts None
-    none_closed p inside open-end =
+    none_closed p inside open_end =
         let (t, us, inner, left, tree) = inside next.0 next.2 in
-        no_bracketed (λ u vs h. open-end us left vs (alike inner h).1)
+        no_bracketed (λ u vs h. open_end us left vs (alike inner h).1)
 
     pub found_bracketed : (p : Parsed) (k : ℕ) → ((us : List Token) → Tokens s j us → Finds formula s us (Some p)) → ((us : List Token) → Tokens s p.next us → AfterSign s Close us (Some k)) → Finds factor s ts (Some (record { tree = p.tree; next = k }))
     found_bracketed p k inside closing =

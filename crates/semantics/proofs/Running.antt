@@ -23,7 +23,7 @@ module _ (ps : List Placed) (t n : ℕ) (p : Placed) (is : p ≡ place_at ps n) 
   other_target target k e ne = and_right _ _ (ap (is_target k) e ∙ ne_eqb target k ne)
 
   kept : (k : ℕ) → k < 256 → sets_register p t k ≡ false → get_or rs k 0 ≡ held ps t (n + 1) k
-  kept k h no-set = known k h ∙ sym (held_kept ps t n k (subst (λ (q : Placed). sets_register q t k ≡ false) is no-set))
+  kept k h no_set = known k h ∙ sym (held_kept ps t n k (subst (λ (q : Placed). sets_register q t k ≡ false) is no_set))
 
   pub other_thread : (p.thread ≡ t → ⊥) → (k : ℕ) → k < 256 → get_or rs k 0 ≡ held ps t (n + 1) k
   other_thread ne k h = kept k h (and_left _ _ (ne_eqb p.thread t ne))

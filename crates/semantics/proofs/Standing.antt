@@ -80,21 +80,21 @@ listed_second o x y (i, j, less, under, e, f) = (j, under, f)
 
 -- places that differ stand one way or the other
 pub either_way : (o : List ℕ) (x y : ℕ) → Listed o x → Listed o y → (x ≡ y → ⊥) → Before o x y ⊎ Before o y x
-either_way o x y (i, here-x, e) (j, here-y, f) differ =
+either_way o x y (i, here_x, e) (j, here_y, f) differ =
     ⊎_elim
     (λ same. absurd (differ (cc)))
-    (⊎_elim (λ less. inl (i, j, less, here-y, e, f)) (λ less. inr (j, i, less, here-x, f, e)))
+    (⊎_elim (λ less. inl (i, j, less, here_y, e, f)) (λ less. inr (j, i, less, here_x, f, e)))
     (cases_order i j)
 
 -- in a list that has nothing twice
 module _ (o : List ℕ) (once : (x : ℕ) → Before o x x → ⊥) where
   pub same_position : (i j : ℕ) → i < length o → j < length o → get_or o i 0 ≡ get_or o j 0 → i ≡ j
-  same_position i j under-i under-j e =
+  same_position i j under_i under_j e =
       ⊎_elim
       (λ same. same)
       (⊎_elim
-      (λ less. absurd (once (get_or o i 0) (i, j, less, under-j, refl, sym e)))
-      (λ less. absurd (once (get_or o i 0) (j, i, less, under-i, sym e, refl))))
+      (λ less. absurd (once (get_or o i 0) (i, j, less, under_j, refl, sym e)))
+      (λ less. absurd (once (get_or o i 0) (j, i, less, under_i, sym e, refl))))
       (cases_order i j)
 
   pub before_then : (x y z : ℕ) → Before o x y → Before o y z → Before o x z
@@ -103,4 +103,4 @@ module _ (o : List ℕ) (once : (x : ℕ) → Before o x x → ⊥) where
       (i, l, omega arith, within, e, h)
 
   pub not_both_ways : (x y : ℕ) → Before o x y → Before o y x → ⊥
-  not_both_ways x y there-y back = once x (before_then x y x there-y back)
+  not_both_ways x y there_y back = once x (before_then x y x there_y back)

@@ -18,8 +18,8 @@ use Rattle.theorems.proofs.Tested.{Tested, all_below, tested_again, tested_both,
 -- program order
 abbrev pub in_thread : ℕ → (ℕ → ℕ) → ℕ → ℕ → Bool
 in_thread n thread x y =
-    let one-thread = eqb (thread x) (thread y) in
-    let rest = ltb y n && one-thread in
+    let one_thread = eqb (thread x) (thread y) in
+    let rest = ltb y n && one_thread in
     ltb x y && rest
 
 pub tested_in_thread : (n : ℕ) (thread : ℕ → ℕ) (x y : ℕ) → Tested (in_thread n thread x y) (ThreadOrder n thread x y)

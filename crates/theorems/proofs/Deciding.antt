@@ -80,8 +80,8 @@ module _ (e : Events) (o : List ℕ) where
         let rest =
         all_below e.size (λ u.
         let stands = before o u w in
-        let up_to_lem = eqb u w || stands in
-        not (visible u) || up_to_lem) in
+        let up_to = eqb u w || stands in
+        not (visible u) || up_to) in
         visible w && rest
 
     tested_latest : (w : ℕ) → Tested (latest w) (Latest e o r l w)

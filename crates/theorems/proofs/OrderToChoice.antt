@@ -119,15 +119,15 @@ module _ (e : Events) (o : List ℕ) (fulfils : Fulfils e o) where
   -- what follows the writer of a read in coherence is a write to its location that is not visible to it
   overtaker : {r l v w u : ℕ} → Reads e r l v → choice.source r ≡ Some w → (k : ℕ) → Before (choice.arranged k) w u → WritesTo e l u × (Visible e o r l u → ⊥)
   overtaker {r} {l} {v} {w} {u} reads source k b =
-      let seen-w = sees reads (Some w) source in
-      let there-b = at_location e choice coherent l (v, seen-w.1) (k, b) in
+      let seen_w = sees reads (Some w) source in
+      let there_b = at_location e choice coherent l (v, seen_w.1) (k, b) in
       let after = in_order k b in (
-        (later_writes e choice coherent l there-b).1,
+        (later_writes e choice coherent l there_b).1,
         λ visible.
             ⊎_elim
             (λ same. fulfils.lists.once u (subst (λ x. Before o x u) (sym same) after))
             (not_both_ways o fulfils.lists.once w u after)
-            (seen-w.0.latest u visible),
+            (seen_w.0.latest u visible),
       )
 
   -- a write that is not visible to a read of its location stands after it

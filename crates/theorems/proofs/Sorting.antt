@@ -161,16 +161,16 @@ sort (suc m) R d acyclic =
     with_last (sort m (ByWay R m) (λ x y. dec_either (d x y) (dec_both (d x m) (d m y))) (λ x road. acyclic x (direct m road)))
   where
     goes : (s : Sorted m (ByWay R m)) (x y : ℕ) → x < suc m → y < suc m → (x < m) ⊎ (m ≤ x) → (y < m) ⊎ (m ≤ y) → R x y → Ahead x y (put (d m) m s.order)
-    goes s x y in-x in-y (inl h) (inl k) r = put_ahead (d m) m (s.forward x y h k (inl r))
-    goes s x y in-x in-y (inl h) (inr k) r =
+    goes s x y in_x in_y (inl h) (inl k) r = put_ahead (d m) m (s.forward x y h k (inl r))
+    goes s x y in_x in_y (inl h) (inr k) r =
         let top : m ≡ y = omega arith in
         let into : R x m = subst (λ z. R x z) (sym top) r in
         subst (λ z. Ahead x z (put (d m) m s.order)) top
         (put_after (d m) m (s.every x h) s.once (λ z i out. s.forward x z h (s.only z i) (inr (into, out))))
-    goes s x y in-x in-y (inr h) (inl k) r =
+    goes s x y in_x in_y (inr h) (inl k) r =
         let top : m ≡ x = omega arith in
         subst (λ z. Ahead z y (put (d m) m s.order)) top (put_before (d m) m (s.every y k) (subst (λ z. R z y) (sym top) r))
-    goes s x y in-x in-y (inr h) (inr k) r = let same : y ≡ x = omega arith in absurd (acyclic x (one (subst (λ z. R x z) same r)))
+    goes s x y in_x in_y (inr h) (inr k) r = let same : y ≡ x = omega arith in absurd (acyclic x (one (subst (λ z. R x z) same r)))
 
     with_last : Sorted m (ByWay R m) → Sorted (suc m) R
     with_last s = record {
