@@ -1,5 +1,5 @@
 -- What the words of a command line ask for.
-use Rattle.std.specs.Prelude.{◌≡◌, ℕ, ◌+◌, ◌<◌, List, [], ◌∷◌, ◌++◌, map, length, Some, None, codes, decimal, Option, MatchOption}
+use Rattle.std.specs.Prelude.{◌≡◌, ℕ, ◌+◌, ◌<◌, List, [], ◌∷◌, map, length, Some, None, codes, Option, MatchOption}
 use Rattle.std.specs.Borrow.{Bor}
 use Rattle.models.specs.Tables.{cell_number}
 use Rattle.models.specs.declared.table.Cell.{Cell}
@@ -12,11 +12,6 @@ use Rattle.litmus.specs.declared.request.Request.TheVariants.{Help, Models, Exam
 abbrev pub shown : Option Cell → ℕ
 shown (Some c) = 48 + cell_number c
 shown None = 63
-
--- the line of a refusal: its number and, where it has one, its place
-abbrev pub refusal_line : ℕ → Option ℕ → List ℕ
-refusal_line number None = codes "refused " ++ decimal number
-refusal_line number (Some place) = codes "refused " ++ (decimal number ++ (codes " place " ++ decimal place))
 
 -- something of which P holds, or none where P holds of nothing
 abbrev pub Finds : {A : Type 0} → (A → Type 0) → Option A → Type 0

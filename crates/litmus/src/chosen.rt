@@ -10,7 +10,7 @@ use std::alloc::Global;
 fn by_name(name: &str) -> Result<Summary, Refusal>
     ensures { Answers (Name name.entry) result }
 {
-    let model = Named::from_name(name)?;
+    let model = name.parse::<Named>()?;
     Ok(summarize(&model))
 }
 
@@ -24,23 +24,23 @@ fn by_formula(heap: Global, text: &str) -> Result<Summary, Refusal>
 fn by_table(numbers: [[u8; 5]; 5]) -> Result<Summary, Refusal>
     ensures { Answers (Numbers numbers) result }
 {
-    let model = Table::new(numbers)?;
+    let model = Table::try_from(numbers)?;
     Ok(summarize(&model))
 }
 
 fn by_either(first: &str, second: &str) -> Result<Summary, Refusal>
     ensures { Answers (EitherOf first.entry second.entry) result }
 {
-    let first = Named::from_name(first)?;
-    let second = Named::from_name(second)?;
+    let first = first.parse::<Named>()?;
+    let second = second.parse::<Named>()?;
     Ok(summarize(&Either { first, second }))
 }
 
 fn by_both(first: &str, second: &str) -> Result<Summary, Refusal>
     ensures { Answers (BothOf first.entry second.entry) result }
 {
-    let first = Named::from_name(first)?;
-    let second = Named::from_name(second)?;
+    let first = first.parse::<Named>()?;
+    let second = second.parse::<Named>()?;
     Ok(summarize(&Both { first, second }))
 }
 

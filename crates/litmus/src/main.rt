@@ -4,14 +4,12 @@
 mod chosen;
 mod request;
 
-ghost use Rattle.std.specs.Prelude.{◌≡◌, IfOk, if◌then◌else◌, string_bytes};
-ghost use Rattle.litmus.specs.Requests.{shown, refusal_line};
+ghost use Rattle.std.specs.Prelude.{◌≡◌, if◌then◌else◌};
+ghost use Rattle.litmus.specs.Requests.{shown};
 
-use anyhow::anyhow;
 use chosen::summary_of;
 use models::{Cell, Named, Refusal, Summary, summarize};
 use request::{Request, read_request};
-use std::alloc::{AllocError, Global};
 use std::process::ExitCode;
 use std::{env, io};
 use theorems::verdicts;
@@ -103,24 +101,6 @@ fn show_examples(rt: &HostRuntime) -> io::Result<()> {
     Ok(())
 }
 
-// The line that tells a refusal.
-fn refusal_line(heap: Global, number: u8, place: Option<usize>) -> Result<String, AllocError>
-    ensures { IfOk result (λ s. string_bytes s ≡ refusal_line number place) }
-{
-    match place {
-        Some(place) => format!(in heap; "refused {number} place {place}"),
-        None => format!(in heap; "refused {number}"),
-    }
-}
-
-fn show_refusal(rt: &HostRuntime, refusal: Refusal) -> anyhow::Result<()> {
-    let Some(number) = refusal.number() else {
-        return Err(anyhow!("out of memory"));
-    };
-    rt.println(refusal_line(rt.alloc(), number, refusal.place())?)?;
-    Ok(())
-}
-
 fn answer(rt: &HostRuntime, request: Request<'_>) -> anyhow::Result<()> {
     match request {
         Request::Help => rt.print(USAGE)?,
@@ -128,7 +108,8 @@ fn answer(rt: &HostRuntime, request: Request<'_>) -> anyhow::Result<()> {
         Request::Examples => show_examples(rt)?,
         Request::Keeps(choice) => match summary_of(rt.alloc(), choice) {
             Ok(summary) => show(rt, summary)?,
-            Err(refusal) => show_refusal(rt, refusal)?,
+            Err(Refusal::OutOfMemory) => return Err(Refusal::OutOfMemory.into()),
+            Err(refusal) => rt.println(refusal)?,
         },
     }
     Ok(())

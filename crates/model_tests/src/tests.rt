@@ -139,30 +139,30 @@ const NAMED: [(&str, &str); 4] = [
 #[test]
 fn named_models_are_their_formulas(rt: HostRuntime) -> Result<(), Fail> {
     for (name, text) in NAMED {
-        let named = Named::from_name(name)?;
+        let named = name.parse::<Named>()?;
         assert!(rt; formula_text(named) == text, "{}", name);
         let formula = parse(rt.alloc(), text.as_bytes())?;
         assert!(rt; alike(&named, &formula), "{}", name);
         assert!(rt; alike(&named.table(), &formula), "{}", name);
     }
-    assert!(rt; Named::from_name("sc").is_err());
-    assert!(rt; Named::from_name("TSO ").is_err());
-    assert!(rt; Named::from_name("").is_err());
+    assert!(rt; "sc".parse::<Named>().is_err());
+    assert!(rt; "TSO ".parse::<Named>().is_err());
+    assert!(rt; "".parse::<Named>().is_err());
     Ok(())
 }
 
 #[test]
 fn tables_and_pairs(rt: HostRuntime) -> Result<(), Fail> {
     let mut numbers = [[4; 5]; 5];
-    assert!(rt; Table::new(numbers).is_ok());
+    assert!(rt; Table::try_from(numbers).is_ok());
     numbers[4][4] = 5;
-    assert!(rt; Table::new(numbers).is_err());
+    assert!(rt; Table::try_from(numbers).is_err());
     numbers[4][4] = 4;
     numbers[0][0] = 255;
-    assert!(rt; Table::new(numbers).is_err());
-    let first = Table::new([[2; 5]; 5])?;
-    let second = Table::new([[3; 5]; 5])?;
-    let any = Table::new([[4; 5]; 5])?;
+    assert!(rt; Table::try_from(numbers).is_err());
+    let first = Table::try_from([[2; 5]; 5])?;
+    let second = Table::try_from([[3; 5]; 5])?;
+    let any = Table::try_from([[4; 5]; 5])?;
     assert!(rt; alike(&Either { first, second }, &any));
     assert!(rt; !alike(&Both { first, second }, &any));
     assert!(rt; alike(&Both { first: any, second }, &second));

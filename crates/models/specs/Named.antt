@@ -1,11 +1,13 @@
 -- The models that are had by name: each one's name, formula and table.
-use Rattle.std.specs.Prelude.{◌≡◌, ℕ, List, [], ◌∷◌, map, codes, slice_index_or}
+use Rattle.std.specs.Prelude.{◌≡◌, ℕ, List, [], ◌∷◌, map, codes, Result, MatchResult, ◌≢◌, slice_index_or}
+use Rattle.models.specs.Refusals.{told, numbered}
 use Rattle.models.specs.Tables.{cell_number, table_keeps}
 use Rattle.models.specs.Trees.{Tree, word, both, either, holds}
 use Rattle.models.specs.declared.facts.Facts.{Facts}
 use Rattle.models.specs.declared.by_name.Named.{Named}
 use Rattle.models.specs.declared.by_name.Named.TheVariants.{Sc, Ibm370, Tso, Rmo}
 use Rattle.models.specs.declared.formula.Word.TheVariants.{True, ReadX, ReadY, WriteX, WriteY, FenceX, FenceY, SameAddr, DataDep, ControlDep}
+use Rattle.models.specs.declared.refusal.Refusal.{Refusal}
 use Rattle.models.specs.declared.table.Cell.{Cell}
 use Rattle.models.specs.declared.table.Cell.TheVariants.{Free, Always, SameAddr as SameAddress, Dependent, AnyFact}
 use Rattle.models.specs.declared.table.Table.{Table}
@@ -18,6 +20,10 @@ name_of Sc = codes "SC"
 name_of Ibm370 = codes "IBM370"
 name_of Tso = codes "TSO"
 name_of Rmo = codes "RMO"
+
+-- the model with this name, or refusal 17 where no model has it
+abbrev pub Finds : List ℕ → Result Named Refusal → Type 0
+Finds name r = MatchResult r (λ n. name ≡ name_of n) (λ e. (told e ≡ numbered 17) × ((n : Named) → name ≢ name_of n))
 
 -- SC: true
 -- IBM370: Write.x & Read.y & SameAddr | Write.x & Write.y | Read.x | Fence.x | Fence.y

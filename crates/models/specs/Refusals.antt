@@ -1,5 +1,5 @@
 -- What each refusal says: its number and, of some, a place.
-use Rattle.std.specs.Prelude.{ℕ, Some, None, Option}
+use Rattle.std.specs.Prelude.{ℕ, ◌++◌, List, Some, None, codes, decimal, Option}
 use Rattle.models.specs.declared.refusal.Refusal.{Refusal}
 use Rattle.models.specs.declared.refusal.Refusal.TheVariants.{FormulaTooLong, UnknownWord, NoFormula, TooDeep, UnknownName, UnknownCell, OutOfMemory}
 
@@ -28,3 +28,9 @@ abbrev pub place_of : Told → Option ℕ
 place_of (numbered n) = None
 place_of (placed n p) = Some p
 place_of unnumbered = None
+
+-- the text that tells a refusal: its number and, where it has one, its place
+abbrev pub text_of : Told → List ℕ
+text_of (numbered n) = codes "refused " ++ decimal n
+text_of (placed n p) = codes "refused " ++ (decimal n ++ (codes " place " ++ decimal p))
+text_of unnumbered = codes "out of memory"

@@ -1,7 +1,9 @@
 -- Tables of cells: a row for each kind of the earlier instruction, in it a column for each kind of the later one.
-use Rattle.std.specs.Prelude.{◌≡◌, ℕ, ◌<◌, Bool, true, false, ◌||◌, List, [], slice_index, slice_index_or}
+use Rattle.std.specs.Prelude.{◌≡◌, ℕ, ◌<◌, Bool, true, false, ◌||◌, List, [], Result, MatchResult, slice_index, slice_index_or}
 use Rattle.models.specs.Facts.{index, kinds}
+use Rattle.models.specs.Refusals.{told, numbered}
 use Rattle.models.specs.declared.facts.Facts.{Facts}
+use Rattle.models.specs.declared.refusal.Refusal.{Refusal}
 use Rattle.models.specs.declared.table.Cell.{Cell}
 use Rattle.models.specs.declared.table.Cell.TheVariants.{Free, Always, SameAddr, Dependent, AnyFact}
 use Rattle.models.specs.declared.table.Row.{Row}
@@ -52,3 +54,14 @@ RowMade numbers r = (j : ℕ) → j < kinds → cell_number (slice_index_or r.ce
 
 abbrev pub RowOver : List ℕ → Type 0
 RowOver numbers = (j : ℕ) × (j < kinds) × (4 < slice_index numbers j)
+
+-- what is made of a number, of the numbers of a row and of those of a table: each cell with its number, or refusal 18
+-- where a number is of no cell
+abbrev pub MakesCell : ℕ → Result Cell Refusal → Type 0
+MakesCell number r = MatchResult r (λ c. cell_number c ≡ number) (λ e. (told e ≡ numbered 18) × (4 < number))
+
+abbrev pub MakesRow : List ℕ → Result Row Refusal → Type 0
+MakesRow numbers r = MatchResult r (RowMade numbers) (λ e. (told e ≡ numbered 18) × RowOver numbers)
+
+abbrev pub MakesTable : List (List ℕ) → Result Table Refusal → Type 0
+MakesTable numbers r = MatchResult r (Made numbers) (λ e. (told e ≡ numbered 18) × Over numbers)

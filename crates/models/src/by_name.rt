@@ -1,15 +1,14 @@
 // The models that are had by name.
-ghost use Rattle.std.specs.Prelude.{◌≡◌, MatchResult, ◌≢◌};
-ghost use Rattle.models.specs.Named.{all_named, name_of, formula_of, table_of, Is};
+ghost use Rattle.std.specs.Prelude.{◌≡◌};
+ghost use Rattle.models.specs.Named.{all_named, name_of, formula_of, table_of, Finds, Is};
 ghost use Rattle.models.specs.Trees.{holds};
-ghost use Rattle.models.specs.declared.by_name.Named.{Named};
-ghost use Rattle.models.specs.Refusals.{told, numbered};
 ghost use Rattle.models.specs.Positives;
 
 use crate::facts::{Facts, KINDS};
 use crate::model::Model as MemoryModel;
 use crate::refusal::Refusal;
 use crate::table::{Cell, Row, Table};
+use std::str::FromStr;
 
 const KEPT: Row = Row {
     cells: [Cell::Always; KINDS],
@@ -77,12 +76,29 @@ const RMO: Table = Table {
     rows: [DEPENDENT, DEPENDENT, KEPT, DEPENDENT, DEPENDENT],
 };
 
-#[derive(Clone, Copy)]
+#[derive(Clone, Copy, Debug, PartialEq, Eq)]
 pub enum Named {
     Sc,
     Ibm370,
     Tso,
     Rmo,
+}
+
+// The model with this name.
+impl FromStr for Named {
+    type Err = Refusal;
+
+    ghost from_str_gives = { Finds };
+
+    fn from_str(name: &str) -> Result<Named, Refusal> {
+        match name {
+            "SC" => Ok(Named::Sc),
+            "IBM370" => Ok(Named::Ibm370),
+            "TSO" => Ok(Named::Tso),
+            "RMO" => Ok(Named::Rmo),
+            _ => Err(Refusal::UnknownName),
+        }
+    }
 }
 
 impl Named {
@@ -91,19 +107,6 @@ impl Named {
         ensures { result ≡ all_named }
     {
         [Named::Sc, Named::Ibm370, Named::Tso, Named::Rmo]
-    }
-
-    // The model with this name.
-    pub fn from_name(name: &str) -> Result<Named, Refusal>
-        ensures { MatchResult result (λ n. name.now ≡ name_of n) (λ e. (told e ≡ numbered 17) × ((n : Named) → name.now ≢ name_of n)) }
-    {
-        match name {
-            "SC" => Ok(Named::Sc),
-            "IBM370" => Ok(Named::Ibm370),
-            "TSO" => Ok(Named::Tso),
-            "RMO" => Ok(Named::Rmo),
-            _ => Err(Refusal::UnknownName),
-        }
     }
 
     pub fn name(self) -> &'static str

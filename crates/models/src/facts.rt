@@ -1,8 +1,8 @@
 // What a model is told of an earlier and a later instruction of one thread.
 ghost use Rattle.std.specs.Prelude.{◌≡◌};
-ghost use Rattle.models.specs.Facts.{index, same, all_kinds};
+ghost use Rattle.models.specs.Facts.{index, all_kinds};
 
-#[derive(Clone, Copy, PartialEq, Eq)]
+#[derive(Clone, Copy, Debug, PartialEq, Eq)]
 pub enum Kind {
     Read,
     Write,
@@ -34,18 +34,11 @@ impl Kind {
     {
         self as usize
     }
-
-    // Whether this is the same kind as `other`.
-    pub fn is(self, other: Kind) -> bool
-        ensures { result ≡ same self other }
-    {
-        self.index() == other.index()
-    }
 }
 
 // The facts of a pair: both kinds, and whether the two access one location, whether the later one
 // names the earlier one's target, and whether the later one is the first write after the earlier, a branch.
-#[derive(Clone, Copy)]
+#[derive(Clone, Copy, Debug, PartialEq, Eq)]
 pub struct Facts {
     pub earlier: Kind,
     pub later: Kind,

@@ -7,7 +7,7 @@ use crate::facts::{Facts, Kind};
 use crate::model::Model as MemoryModel;
 
 // A word of a formula. `x` is the earlier instruction of a pair, `y` the later one.
-#[derive(Clone, Copy, PartialEq, Eq)]
+#[derive(Clone, Copy, Debug, PartialEq, Eq)]
 pub enum Word {
     True,
     ReadX,
@@ -28,12 +28,12 @@ impl Word {
     {
         match self {
             Word::True => true,
-            Word::ReadX => facts.earlier.is(Kind::Read),
-            Word::ReadY => facts.later.is(Kind::Read),
-            Word::WriteX => facts.earlier.is(Kind::Write),
-            Word::WriteY => facts.later.is(Kind::Write),
-            Word::FenceX => facts.earlier.is(Kind::Fence),
-            Word::FenceY => facts.later.is(Kind::Fence),
+            Word::ReadX => facts.earlier == Kind::Read,
+            Word::ReadY => facts.later == Kind::Read,
+            Word::WriteX => facts.earlier == Kind::Write,
+            Word::WriteY => facts.later == Kind::Write,
+            Word::FenceX => facts.earlier == Kind::Fence,
+            Word::FenceY => facts.later == Kind::Fence,
             Word::SameAddr => facts.same_addr,
             Word::DataDep => facts.data_dep,
             Word::ControlDep => facts.control_dep,

@@ -1,8 +1,13 @@
 // Why a model could not be made.
-ghost use Rattle.std.specs.Prelude.{◌≡◌};
-ghost use Rattle.models.specs.Refusals.{told, number_of, place_of};
+ghost use Rattle.std.specs.Prelude.{◌≡◌, Some};
+ghost use Rattle.models.specs.Refusals.{told, number_of, place_of, text_of};
+ghost use Rattle.models.specs.declared.refusal.Refusal.TheVariants.{OutOfMemory};
 
-#[derive(Clone, Copy, Debug)]
+use std::alloc::AllocError;
+use std::error::Error;
+use std::fmt;
+
+#[derive(Clone, Copy, Debug, PartialEq, Eq)]
 pub enum Refusal {
     // 10: a formula text of over 256 bytes
     FormulaTooLong,
@@ -42,5 +47,28 @@ impl Refusal {
             Refusal::UnknownWord(place) => Some(place),
             _ => None,
         }
+    }
+}
+
+// As the command tells it: the number and, where there is one, the place.
+impl fmt::Display for Refusal {
+    ghost output = { λ e. Some (text_of (told e)) };
+
+    fn fmt<W: fmt::Write>(&self, f: &mut fmt::Formatter<W>) -> fmt::Result {
+        match (self.number(), self.place()) {
+            (Some(number), Some(place)) => write!(f, "refused {number} place {place}"),
+            (Some(number), None) => write!(f, "refused {number}"),
+            (None, _) => f.write_str("out of memory"),
+        }
+    }
+}
+
+impl Error for Refusal {}
+
+impl From<AllocError> for Refusal {
+    ghost from_gives = { λ _ e. e ≡ OutOfMemory };
+
+    fn from(_error: AllocError) -> Self {
+        Self::OutOfMemory
     }
 }

@@ -1,48 +1,42 @@
 // A model's answers told by cells.
-ghost use Rattle.models.specs.Summaries.{Agrees, Describes, TellsCell, TellsRow, Summarizes};
+ghost use Rattle.std.specs.Prelude.{◌≡◌};
+ghost use Rattle.models.specs.Summaries.{combinations, Describes, TellsCell, TellsRow, Summarizes};
 ghost use Rattle.models.specs.Tells.{Tells};
 
 use crate::facts::{Facts, KINDS, Kind};
 use crate::model::Model;
 use crate::table::Cell;
 
-// Whether a cell says what the model keeps where the facts are these, whatever the control dependency is.
-fn agrees<M: Model>(
-    model: &M,
-    cell: Cell,
-    earlier: Kind,
-    later: Kind,
-    same_addr: bool,
-    data_dep: bool,
-) -> bool
-    ensures { Tells result (Agrees (M.Model.meaning model.now) cell earlier later same_addr data_dep) }
+// The pairs of two kinds: each combination of the three facts.
+fn combinations(earlier: Kind, later: Kind) -> [Facts; 8]
+    ensures { result ≡ combinations earlier later }
 {
-    let no = Facts {
+    let facts = |same_addr, data_dep, control_dep| Facts {
         earlier,
         later,
         same_addr,
         data_dep,
-        control_dep: false,
+        control_dep,
     };
-    let yes = Facts {
-        earlier,
-        later,
-        same_addr,
-        data_dep,
-        control_dep: true,
-    };
-    model.keeps(no) == cell.keeps(no) && model.keeps(yes) == cell.keeps(yes)
+    [
+        facts(false, false, false),
+        facts(false, false, true),
+        facts(false, true, false),
+        facts(false, true, true),
+        facts(true, false, false),
+        facts(true, false, true),
+        facts(true, true, false),
+        facts(true, true, true),
+    ]
 }
 
 // Whether a cell says what the model keeps of all pairs of two kinds.
 fn describes<M: Model>(model: &M, cell: Cell, earlier: Kind, later: Kind) -> bool
     ensures { Tells result (Describes (M.Model.meaning model.now) earlier later cell) }
 {
-    let neither = agrees(model, cell, earlier, later, false, false);
-    let dependent = agrees(model, cell, earlier, later, false, true);
-    let same = agrees(model, cell, earlier, later, true, false);
-    let both = agrees(model, cell, earlier, later, true, true);
-    neither & dependent & same & both
+    combinations(earlier, later)
+        .iter()
+        .all(|facts| model.keeps(*facts) == cell.keeps(*facts))
 }
 
 const CELLS: [Cell; 5] = [
@@ -57,12 +51,10 @@ const CELLS: [Cell; 5] = [
 pub fn cell_of<M: Model>(model: &M, earlier: Kind, later: Kind) -> Option<Cell>
     ensures { TellsCell (M.Model.meaning model.now) earlier later result }
 {
-    for cell in CELLS {
-        if describes(model, cell, earlier, later) {
-            return Some(cell);
-        }
-    }
-    None
+    CELLS
+        .iter()
+        .find(|cell| describes(model, **cell, earlier, later))
+        .copied()
 }
 
 // For each kind of the earlier instruction, and in it for each kind of the later one, the cell that says
@@ -72,22 +64,16 @@ pub type Summary = [[Option<Cell>; KINDS]; KINDS];
 fn row_of<M: Model>(model: &M, earlier: Kind) -> [Option<Cell>; KINDS]
     ensures { TellsRow (M.Model.meaning model.now) earlier result }
 {
-    let read = cell_of(model, earlier, Kind::Read);
-    let write = cell_of(model, earlier, Kind::Write);
-    let fence = cell_of(model, earlier, Kind::Fence);
-    let arithmetic = cell_of(model, earlier, Kind::Arithmetic);
-    let branch = cell_of(model, earlier, Kind::Branch);
-    [read, write, fence, arithmetic, branch]
+    Kind::all().map(|later| cell_of(model, earlier, later))
 }
 
 // What a model keeps, told by cells.
 pub fn summarize<M: Model>(model: &M) -> Summary
     ensures { Summarizes (M.Model.meaning model.now) result }
 {
-    let read = row_of(model, Kind::Read);
-    let write = row_of(model, Kind::Write);
-    let fence = row_of(model, Kind::Fence);
-    let arithmetic = row_of(model, Kind::Arithmetic);
-    let branch = row_of(model, Kind::Branch);
-    [read, write, fence, arithmetic, branch]
+    Kind::all().map(
+        |earlier| -> [Option<Cell>; KINDS]
+            ensures { TellsRow (M.Model.meaning model.entry.now) earlier result }
+        { row_of(model, earlier) },
+    )
 }

@@ -1,8 +1,7 @@
 // Models as tables: a row for each kind of the earlier instruction, a column for each of the later one.
-ghost use Rattle.std.specs.Prelude.{◌≡◌, ◌<◌, MatchResult};
+ghost use Rattle.std.specs.Prelude.{◌≡◌};
 ghost use Rattle.models.specs.Facts.{index};
-ghost use Rattle.models.specs.Refusals.{told, numbered};
-ghost use Rattle.models.specs.Tables.{cell_number, cell_keeps, cell_of, table_keeps, Made, Over, RowMade, RowOver};
+ghost use Rattle.models.specs.Tables.{cell_number, cell_keeps, cell_of, table_keeps, MakesCell, MakesRow, MakesTable};
 ghost use Rattle.std.proofs.Common.{rules};
 
 use crate::facts::{Facts, KINDS, Kind};
@@ -10,7 +9,7 @@ use crate::model::Model as MemoryModel;
 use crate::refusal::Refusal;
 
 // When a pair of the row's and the column's kinds is kept.
-#[derive(Clone, Copy, PartialEq, Eq)]
+#[derive(Clone, Copy, Debug, PartialEq, Eq)]
 pub enum Cell {
     Free,
     Always,
@@ -19,10 +18,13 @@ pub enum Cell {
     AnyFact,
 }
 
-impl Cell {
-    pub fn new(number: u8) -> Result<Cell, Refusal>
-        ensures { MatchResult result (λ c. cell_number c ≡ number) (λ e. (told e ≡ numbered 18) × (4 < number)) }
-    {
+// The cell with this number, unless it is over 4.
+impl TryFrom<u8> for Cell {
+    type Error = Refusal;
+
+    ghost try_from_gives = { MakesCell };
+
+    fn try_from(number: u8) -> Result<Cell, Refusal> {
         match number {
             0 => Ok(Cell::Free),
             1 => Ok(Cell::Always),
@@ -32,13 +34,17 @@ impl Cell {
             _ => Err(Refusal::UnknownCell),
         }
     }
+}
 
-    pub fn number(self) -> u8
-        ensures { result ≡ cell_number self }
-    {
-        self as u8
+impl From<Cell> for u8 {
+    ghost from_gives = { λ cell number. number ≡ cell_number cell };
+
+    fn from(cell: Cell) -> u8 {
+        cell as u8
     }
+}
 
+impl Cell {
     pub fn keeps(self, facts: Facts) -> bool
         ensures { result ≡ cell_keeps self facts }
     {
@@ -58,14 +64,13 @@ pub struct Row {
     pub(crate) cells: [Cell; KINDS],
 }
 
-impl Row {
-    fn new(numbers: [u8; KINDS]) -> Result<Row, Refusal>
-        ensures { MatchResult result (λ row. RowMade numbers row) (λ e. (told e ≡ numbered 18) × RowOver numbers) }
-    {
-        let mut cells = [Cell::Free; KINDS];
-        for column in 0..KINDS {
-            cells[column] = Cell::new(numbers[column])?;
-        }
+impl TryFrom<[u8; KINDS]> for Row {
+    type Error = Refusal;
+
+    ghost try_from_gives = { MakesRow };
+
+    fn try_from(numbers: [u8; KINDS]) -> Result<Row, Refusal> {
+        let cells = numbers.try_map(Cell::try_from)?;
         Ok(Row { cells })
     }
 }
@@ -75,20 +80,19 @@ pub struct Table {
     pub(crate) rows: [Row; KINDS],
 }
 
-impl Table {
-    // The table with these numbers, unless one of them is over 4.
-    pub fn new(numbers: [[u8; KINDS]; KINDS]) -> Result<Table, Refusal>
-        ensures { MatchResult result (λ table. Made numbers table) (λ e. (told e ≡ numbered 18) × Over numbers) }
-    {
-        let mut rows = [Row {
-            cells: [Cell::Free; KINDS],
-        }; KINDS];
-        for row in 0..KINDS {
-            rows[row] = Row::new(numbers[row])?;
-        }
+// The table with these numbers, unless one of them is over 4.
+impl TryFrom<[[u8; KINDS]; KINDS]> for Table {
+    type Error = Refusal;
+
+    ghost try_from_gives = { MakesTable };
+
+    fn try_from(numbers: [[u8; KINDS]; KINDS]) -> Result<Table, Refusal> {
+        let rows = numbers.try_map(Row::try_from)?;
         Ok(Table { rows })
     }
+}
 
+impl Table {
     pub fn cell(&self, earlier: Kind, later: Kind) -> Cell
         ensures { result ≡ cell_of self.now (index earlier) (index later) }
     {
