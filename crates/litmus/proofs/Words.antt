@@ -29,6 +29,9 @@ three_words (a ∷ b ∷ []) h = absurd (omega arith)
 three_words (a ∷ b ∷ c ∷ []) h = refl
 three_words (a ∷ b ∷ c ∷ d ∷ ws) h = absurd (omega arith)
 
+-- words as a list, by how many they are
+pub ruleset counted_words = (one_word, two_words, three_words)
+
 -- the words after the first
 abbrev pub after : List (Bor (List ℕ)) → List (Bor (List ℕ))
 after ws = take (length ws - 1) (drop 1 ws)

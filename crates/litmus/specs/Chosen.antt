@@ -1,5 +1,5 @@
 -- What is answered about the model that was asked for.
-use Rattle.std.specs.Prelude.{◌≡◌, List, Option, Result, MatchResult, ◌≢◌}
+use Rattle.std.specs.Prelude.{◌≡◌, ℕ, List, Option, Result, MatchResult, ◌≢◌}
 use Rattle.models.specs.Named.{name_of, formula_of}
 use Rattle.models.specs.Pairs.{union, intersection}
 use Rattle.models.specs.Refusals.{Told, told, numbered}
@@ -31,6 +31,13 @@ Lacks (Formula text) e = Refused text.now e
 Lacks (Table numbers) e = (e ≡ numbered 18) × Over numbers
 Lacks (Either a b) e = (e ≡ numbered 17) × ((m n : Named) → a.now ≡ name_of m → b.now ≢ name_of n)
 Lacks (Both a b) e = (e ≡ numbered 17) × ((m n : Named) → a.now ≡ name_of m → b.now ≢ name_of n)
+
+-- the models with these two names, or refusal 17 where one of them is no name
+abbrev pub FindsTwo : List ℕ → List ℕ → Result (Named × Named) Refusal → Type 0
+FindsTwo a b r =
+    MatchResult r
+    (λ p. (a ≡ name_of p.0) × (b ≡ name_of p.1))
+    (λ e. (told e ≡ numbered 17) × ((m n : Named) → a ≡ name_of m → b ≢ name_of n))
 
 abbrev pub Answers : Choice → Result (List (List (Option Cell))) Refusal → Type 0
 Answers c r = MatchResult r (Shows c) (λ e. Lacks c (told e))

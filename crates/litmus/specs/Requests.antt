@@ -1,6 +1,7 @@
 -- What the words of a command line ask for.
 use Rattle.std.specs.Prelude.{◌≡◌, ℕ, ◌+◌, ◌<◌, List, [], ◌∷◌, map, length, Some, None, codes, Option, MatchOption}
 use Rattle.std.specs.Borrow.{Bor}
+use Rattle.std.specs.List.{AllZip}
 use Rattle.models.specs.Tables.{cell_number}
 use Rattle.models.specs.declared.table.Cell.{Cell}
 use Rattle.litmus.specs.declared.request.Choice.{Choice}
@@ -21,24 +22,17 @@ Finds {A} P r = MatchOption r ((x : A) → P x → ⊥) P
 abbrev pub texts : List (Bor (List ℕ)) → List (List ℕ)
 texts ws = map (λ x. x.now) ws
 
--- two lists of one length, related place by place
-abbrev pub Each : {A B : Type 0} → (A → B → Type 0) → List A → List B → Type 0
-Each R [] [] = Unit {0}
-Each R [] (y ∷ ys) = ⊥
-Each R (x ∷ xs) [] = ⊥
-Each R (x ∷ xs) (y ∷ ys) = R x y × Each R xs ys
-
 -- the byte is the digit of the number n
 abbrev pub Digit : ℕ → ℕ → Type 0
 Digit byte n = (n < 10) × (byte ≡ 48 + n)
 
 -- the word is five digits, of these numbers
 abbrev pub Digits : List ℕ → List ℕ → Type 0
-Digits word ns = (length word ≡ 5) × Each Digit word ns
+Digits word ns = (length word ≡ 5) × AllZip Digit word ns
 
 -- five words, each the digits of a row
 abbrev pub Rows : List (List ℕ) → List (List ℕ) → Type 0
-Rows words rows = (length words ≡ 5) × Each Digits words rows
+Rows words rows = (length words ≡ 5) × AllZip Digits words rows
 
 -- the words ask for this model
 abbrev pub Asks : List (List ℕ) → Choice → Type 0

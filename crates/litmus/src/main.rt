@@ -117,14 +117,8 @@ fn answer(rt: &HostRuntime, request: Request<'_>) -> anyhow::Result<()> {
 
 fn main(rt: HostRuntime) -> anyhow::Result<ExitCode> {
     let heap = rt.alloc();
-    let mut args = Vec::new(heap);
-    for arg in env::args(&rt)?.skip(1) {
-        args.push(arg)?;
-    }
-    let mut words = Vec::new(heap);
-    for arg in args.iter() {
-        words.push(arg.as_str())?;
-    }
+    let args: Vec<String> = env::args(&rt)?.skip(1).collect(heap)?;
+    let words: Vec<&str> = args.iter().map(|arg| arg.as_str()).collect(heap)?;
     match read_request(words.as_slice()) {
         Some(request) => {
             answer(&rt, request)?;

@@ -33,19 +33,15 @@ fn digit(byte: u8) -> Option<u8>
 fn row(word: &str) -> Option<[u8; 5]>
     ensures { Finds (Digits word.now) result }
 {
-    let [a, b, c, d, e] = word.as_bytes() else {
-        return None;
-    };
-    Some([digit(*a)?, digit(*b)?, digit(*c)?, digit(*d)?, digit(*e)?])
+    let bytes = <[u8; 5]>::try_from(word.as_bytes()).ok()?;
+    bytes.try_map(|byte| digit(byte).ok_or(())).ok()
 }
 
-fn table<'a>(words: &[&'a str]) -> Option<[[u8; 5]; 5]>
+fn table(words: &[&str]) -> Option<[[u8; 5]; 5]>
     ensures { Finds (Rows (texts words.now)) result }
 {
-    let [a, b, c, d, e] = words else {
-        return None;
-    };
-    Some([row(a)?, row(b)?, row(c)?, row(d)?, row(e)?])
+    let rows = <[&str; 5]>::try_from(words).ok()?;
+    rows.try_map(|word| row(word).ok_or(())).ok()
 }
 
 // The model that a word asks for with two names behind it.
@@ -60,6 +56,7 @@ fn pair<'a>(word: &str, first: &'a str, second: &'a str) -> Option<Choice<'a>>
 }
 
 // The model that the words ask for, if they ask for one.
+#[tactic(auto, using(crate::proofs::Words::counted_words))]
 fn read_choice<'a>(words: &[&'a str]) -> Option<Choice<'a>>
     ensures { Finds (Asks (texts words.now)) result }
 {
@@ -73,6 +70,7 @@ fn read_choice<'a>(words: &[&'a str]) -> Option<Choice<'a>>
 }
 
 // What the words of a command ask for, if they ask for anything.
+#[tactic(auto, using(crate::proofs::Words::counted_words))]
 pub fn read_request<'a>(words: &[&'a str]) -> Option<Request<'a>>
     ensures { Finds (Requests (texts words.now)) result }
 {

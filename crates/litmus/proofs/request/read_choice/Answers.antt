@@ -1,5 +1,5 @@
 use Rattle.std.proofs.Common.{◌≡◌, ◌<◌, length, get_or, codes, arith, rules, ltb-false, ltb-true}
-use Rattle.litmus.proofs.Words.{past, after, one_word, two_words, three_words, more_words, some_after, no_table, none_asked}
+use Rattle.litmus.proofs.Words.{past, after, more_words, some_after, no_table, none_asked}
 use Rattle.litmus.proofs.request.read_choice.Goals as goal
 use Rattle.litmus.specs.Requests.{texts}
 
@@ -9,21 +9,6 @@ returns-in_err-table-in-table c =
     let two : 1 < length c.args.words.now = omega (arith, ltb-true, ltb-false) in
     let is : (get_or c.args.words.now 0 past).now ≡ codes "table" = search rules in
     rw (c.from_residual.ensures, more_words c.args.words.now some, is) (no_table _ (some_after c.args.words.now two) c.in_err-table-in-table.ensures)
-
-pub returns-in-len1 : goal.returns-in-len1
-returns-in-len1 c =
-    let one : length c.args.words.now ≡ 1 = omega (arith, ltb-true, ltb-false) in
-    one_word c.args.words.now one
-
-pub returns-in-formula : goal.returns-in-formula
-returns-in-formula c =
-    let two : length c.args.words.now ≡ 2 = omega (arith, ltb-true, ltb-false) in
-    rw (two_words c.args.words.now two, c.in-formula.is-formula)
-
-pub returns-in-len3 : goal.returns-in-len3
-returns-in-len3 c =
-    let three : length c.args.words.now ≡ 3 = omega (arith, ltb-true, ltb-false) in
-    rw (three_words c.args.words.now three) c.pair.ensures
 
 pub returns-in_ok-table-in-table : goal.returns-in_ok-table-in-table
 returns-in_ok-table-in-table c =

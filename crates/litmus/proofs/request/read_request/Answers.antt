@@ -1,5 +1,5 @@
-use Rattle.std.proofs.Common.{◌≡◌, ◌<◌, length, get_or, codes, arith, rules, ltb-false, ltb-true}
-use Rattle.litmus.proofs.Words.{past, after, one_word, more_words, no_choice, none_requested}
+use Rattle.std.proofs.Common.{◌≡◌, ◌<◌, length, get_or, codes, rules}
+use Rattle.litmus.proofs.Words.{past, after, more_words, no_choice, none_requested}
 use Rattle.litmus.proofs.request.read_request.Goals as goal
 use Rattle.litmus.specs.Requests.{texts}
 
@@ -8,21 +8,6 @@ returns-in_err-read_choice-in-keeps c =
     let some : 0 < length c.args.words.now = search rules in
     let is : (get_or c.args.words.now 0 past).now ≡ codes "keeps" = search rules in
     rw (c.from_residual.ensures, more_words c.args.words.now some, is) (no_choice _ c.in_err-read_choice-in-keeps.ensures)
-
-pub returns-in-help : goal.returns-in-help
-returns-in-help c =
-    let one : length c.args.words.now ≡ 1 = omega (arith, ltb-true, ltb-false) in
-    rw (one_word c.args.words.now one, c.in-help.is-help)
-
-pub returns-in-models : goal.returns-in-models
-returns-in-models c =
-    let one : length c.args.words.now ≡ 1 = omega (arith, ltb-true, ltb-false) in
-    rw (one_word c.args.words.now one, c.in-models.is-models)
-
-pub returns-in-examples : goal.returns-in-examples
-returns-in-examples c =
-    let one : length c.args.words.now ≡ 1 = omega (arith, ltb-true, ltb-false) in
-    rw (one_word c.args.words.now one, c.in-examples.is-examples)
 
 pub returns-in_ok-read_choice-in-keeps : goal.returns-in_ok-read_choice-in-keeps
 returns-in_ok-read_choice-in-keeps c =
