@@ -5,7 +5,7 @@ ghost use Rattle.semantics.specs.Bounds.{is_write_to, write_count, LocationInBou
 ghost use Rattle.semantics.specs.declared.instruction.Stored.TheVariants.{Register};
 
 use crate::instruction::{Instruction, Stored};
-use crate::placed::{Placed, place_at};
+use crate::placed::Placed;
 
 fn location_in_bounds(instruction: Instruction) -> bool
     ensures { Tells result (LocationInBounds instruction) }
@@ -70,23 +70,17 @@ pub(crate) fn in_bounds(instruction: Instruction) -> bool
 fn writes_to(instruction: Instruction, location: u8) -> bool
     ensures { result ≡ is_write_to location instruction }
 {
-    match instruction {
-        Instruction::Write { location: to, .. } => to == location,
-        _ => false,
-    }
+    matches!(instruction, Instruction::Write { location: to, .. } if to == location)
 }
 
 // How many of the instructions write to the location.
 fn write_count(places: &[Placed], location: u8) -> usize
     ensures { result ≡ write_count location places.now }
 {
-    let mut count = 0;
-    for place in 0..places.len() {
-        if writes_to(place_at(places, place).instruction, location) {
-            count += 1;
-        }
-    }
-    count
+    places
+        .iter()
+        .filter(|placed| writes_to(placed.instruction, location))
+        .count()
 }
 
 // Whether the instruction would be no fifth write to a location.

@@ -6,13 +6,13 @@ ghost use Rattle.semantics.specs.Program.{Names, kind_of, target_of, location_of
 use models::Kind;
 
 // What a write stores.
-#[derive(Clone, Copy)]
+#[derive(Clone, Copy, Debug, PartialEq, Eq)]
 pub enum Stored {
     Constant(u8),
     Register(u8),
 }
 
-#[derive(Clone, Copy)]
+#[derive(Clone, Copy, Debug, PartialEq, Eq)]
 pub enum Instruction {
     Read {
         location: u8,
@@ -51,8 +51,7 @@ impl Instruction {
             Instruction::Read { .. } => Kind::Read,
             Instruction::Write { .. } => Kind::Write,
             Instruction::Fence => Kind::Fence,
-            Instruction::Sum { .. } => Kind::Arithmetic,
-            Instruction::Difference { .. } => Kind::Arithmetic,
+            Instruction::Sum { .. } | Instruction::Difference { .. } => Kind::Arithmetic,
             Instruction::Branch { .. } => Kind::Branch,
         }
     }
@@ -62,8 +61,9 @@ impl Instruction {
         ensures { result ≡ location_of self }
     {
         match self {
-            Instruction::Read { location, .. } => Some(location),
-            Instruction::Write { location, .. } => Some(location),
+            Instruction::Read { location, .. } | Instruction::Write { location, .. } => {
+                Some(location)
+            }
             _ => None,
         }
     }
@@ -73,9 +73,9 @@ impl Instruction {
         ensures { result ≡ target_of self }
     {
         match self {
-            Instruction::Read { target, .. } => Some(target),
-            Instruction::Sum { target, .. } => Some(target),
-            Instruction::Difference { target, .. } => Some(target),
+            Instruction::Read { target, .. }
+            | Instruction::Sum { target, .. }
+            | Instruction::Difference { target, .. } => Some(target),
             _ => None,
         }
     }
@@ -87,15 +87,15 @@ impl Instruction {
         match self {
             Instruction::Read { address, .. } => address == Some(register),
             Instruction::Write {
-                stored: Stored::Register(source),
+                stored,
                 address,
                 ..
-            } => source == register || address == Some(register),
-            Instruction::Write { address, .. } => address == Some(register),
+            } => stored == Stored::Register(register) || address == Some(register),
             Instruction::Fence => false,
-            Instruction::Sum { first, second, .. } => first == register || second == register,
-            Instruction::Difference { first, second, .. } => first == register
-                || second == register,
+            Instruction::Sum { first, second, .. }
+            | Instruction::Difference { first, second, .. } => {
+                first == register || second == register
+            }
             Instruction::Branch { source } => source == register,
         }
     }

@@ -62,10 +62,5 @@ pub(crate) fn value_at(places: &[Placed], place: usize) -> Option<u8>
 pub(crate) fn initial_at(initial: &[u8], location: u8) -> u8
     ensures { result ≡ slice_index initial.now location }
 {
-    let location = location as usize;
-    if location < initial.len() {
-        initial[location]
-    } else {
-        0
-    }
+    initial.get(usize::from(location)).copied().unwrap_or(0)
 }
