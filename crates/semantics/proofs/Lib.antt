@@ -1,4 +1,5 @@
 pub mod Accessing
+pub mod Between
 pub mod Fulfilment
 pub mod Growing
 pub mod Latests
