@@ -3,7 +3,7 @@ use Rattle.std.proofs.Common.{◌≡◌, ℕ, ◌<◌, true, false, cond, List, 
 use Rattle.std.proofs.lemmas.List.{length-take, length-take-le, get_or_append_left, get_or_push, get_or_past, get_or-take, length_push}
 use Rattle.std.proofs.lemmas.List.Sums.{sum_by_push, sum_by-set, sum_by-take-le}
 use Rattle.std.proofs.lemmas.Bool.{cases_order, cases_eq, cases_lt, cases_Bool, cond-true, cond-false}
-use Rattle.semantics.specs.Bounds.{is_write_to, InBounds, ThreadsInBounds, EachInstruction, LocationInBounds, TargetInBounds, NamedInBounds, FewWrites, RoomFor}
+use Rattle.semantics.specs.Bounds.{is_write_to, InBounds, FewWrites, PlacesInBounds, RoomFor}
 use Rattle.semantics.specs.Contents.{places_of}
 use Rattle.semantics.specs.Program.{nothing, place_at}
 use Rattle.semantics.specs.declared.placed.Placed.{Placed}
@@ -62,45 +62,28 @@ few_set ps k p within same few l =
 few_take : (ps : List Placed) (k : ℕ) → FewWrites ps → FewWrites (take k ps)
 few_take ps k few l = omega (arith, sum_by-take-le (tally l) ps k, few l)
 
--- what the type of a test says of its places
-pub record Sound (ps : List Placed) : Type 0 where
-  pub threads : ThreadsInBounds ps
-  pub accessed : EachInstruction LocationInBounds ps
-  pub targets : EachInstruction TargetInBounds ps
-  pub named : EachInstruction NamedInBounds ps
-  pub few : FewWrites ps
-
-module _ (ps : List Placed) (sound : Sound ps) where
-  pub sound_push : (p : Placed) → p.thread < 4 → InBounds p.instruction → RoomFor ps p.instruction → Sound (ps ++ p ∷ [])
-  sound_push p thread bounds room = record {
-    threads = each_push (λ q. q.thread < 4) ps sound.threads p thread;
-    accessed = each_push (λ q. LocationInBounds q.instruction) ps sound.accessed p bounds.location;
-    targets = each_push (λ q. TargetInBounds q.instruction) ps sound.targets p bounds.target;
-    named = each_push (λ q. NamedInBounds q.instruction) ps sound.named p bounds.named;
-    few = few_push ps p sound.few room;
+module _ (ps : List Placed) (bounded : PlacesInBounds ps) where
+  pub bounded_push : (p : Placed) → p.thread < 4 → InBounds p.instruction → RoomFor ps p.instruction → PlacesInBounds (ps ++ p ∷ [])
+  bounded_push p thread bounds room = record {
+    threads = each_push (λ q. q.thread < 4) ps bounded.threads p thread;
+    instructions = each_push (λ q. InBounds q.instruction) ps bounded.instructions p bounds;
+    writes = few_push ps p bounded.writes room;
   }
 
   -- the place keeps its thread and its instruction
-  pub sound_set : (k : ℕ) (p : Placed) → k < length ps → p.thread ≡ (place_at ps k).thread → p.instruction ≡ (place_at ps k).instruction → Sound (set ps k p)
-  sound_set k p within thread same = record {
-    threads = each_set (λ q. q.thread < 4) ps sound.threads k p within (subst (λ (t : ℕ). t < 4) (sym thread) (sound.threads k));
-    accessed = each_set (λ q. LocationInBounds q.instruction) ps sound.accessed k p within (subst LocationInBounds (sym same) (sound.accessed k));
-    targets = each_set (λ q. TargetInBounds q.instruction) ps sound.targets k p within (subst TargetInBounds (sym same) (sound.targets k));
-    named = each_set (λ q. NamedInBounds q.instruction) ps sound.named k p within (subst NamedInBounds (sym same) (sound.named k));
-    few = few_set ps k p within same sound.few;
+  pub bounded_set : (k : ℕ) (p : Placed) → k < length ps → p.thread ≡ (place_at ps k).thread → p.instruction ≡ (place_at ps k).instruction → PlacesInBounds (set ps k p)
+  bounded_set k p within thread same = record {
+    threads = each_set (λ q. q.thread < 4) ps bounded.threads k p within (subst (λ (t : ℕ). t < 4) (sym thread) (bounded.threads k));
+    instructions = each_set (λ q. InBounds q.instruction) ps bounded.instructions k p within (subst InBounds (sym same) (bounded.instructions k));
+    writes = few_set ps k p within same bounded.writes;
   }
 
-  pub sound_take : (k : ℕ) → Sound (take k ps)
-  sound_take k = record {
-    threads = each_take (λ q. q.thread < 4) ps sound.threads k;
-    accessed = each_take (λ q. LocationInBounds q.instruction) ps sound.accessed k;
-    targets = each_take (λ q. TargetInBounds q.instruction) ps sound.targets k;
-    named = each_take (λ q. NamedInBounds q.instruction) ps sound.named k;
-    few = few_take ps k sound.few;
+  pub bounded_take : (k : ℕ) → PlacesInBounds (take k ps)
+  bounded_take k = record {
+    threads = each_take (λ q. q.thread < 4) ps bounded.threads k;
+    instructions = each_take (λ q. InBounds q.instruction) ps bounded.instructions k;
+    writes = few_take ps k bounded.writes;
   }
-
-pub sound_of : (t : Test) → Sound (places_of t)
-sound_of t = record { threads = t.threads; accessed = t.accessed; targets = t.targets; named = t.named; few = t.few }
 
 pub length_of : (t : Test) → length (places_of t) ≡ t.len
-length_of t = length-take-le t.len t.slots (omega (arith, t.room, t.short))
+length_of t = length-take-le t.len t.slots (omega (arith, t.bounded.room, t.bounded.short))

@@ -4,11 +4,12 @@ use Rattle.std.proofs.lemmas.List.{get_or_past}
 use Rattle.std.proofs.lemmas.Bool.{cases_lt}
 use Rattle.models.specs.declared.Kind.TheVariants.{Read}
 use Rattle.semantics.specs.Building.{expecting}
+use Rattle.semantics.specs.Bounds.{PlacesInBounds}
 use Rattle.semantics.specs.Contents.{places_of}
 use Rattle.semantics.specs.Program.{kind_of, place_at, nothing}
 use Rattle.semantics.specs.declared.placed.Placed.{Placed}
 use Rattle.semantics.specs.declared.test.Test.{Test}
-use Rattle.semantics.proofs.Growing.{Sound, sound_of, sound_set, length_of}
+use Rattle.semantics.proofs.Growing.{bounded_set, length_of}
 use Rattle.semantics.proofs.test.Test.expect.Goals as goal
 
 -- a read stands among the places
@@ -33,10 +34,10 @@ module _ (t : Test) (x v : ℕ) (ps : List Placed) (is : ps ≡ places_of t) (p 
   changed : take t.len (set t.slots x (expecting p v)) ≡ set (places_of t) x (expecting p v)
   changed = take-set-lt t.len t.slots x (expecting p v) held
 
-  sound : Sound (take t.len (set t.slots x (expecting p v)))
-  sound =
-      subst Sound (sym changed)
-      (sound_set (places_of t) (sound_of t) x (expecting p v) (within (places_of t) x a_read) (ap (λ q. q.thread) at_place) (ap (λ q. q.instruction) at_place))
+  bounded : PlacesInBounds (take t.len (set t.slots x (expecting p v)))
+  bounded =
+      subst PlacesInBounds (sym changed)
+      (bounded_set (places_of t) t.bounded.places x (expecting p v) (within (places_of t) x a_read) (ap (λ q. q.thread) at_place) (ap (λ q. q.instruction) at_place))
 
   places : take t.len (set t.slots x (expecting p v)) ≡ set (places_of t) x (expecting (place_at (places_of t) x) v)
   places = changed ∙ ap (λ q. set (places_of t) x (expecting q v)) at_place
@@ -44,28 +45,25 @@ module _ (t : Test) (x v : ℕ) (ps : List Placed) (is : ps ≡ places_of t) (p 
 pub bounds-self-place : goal.bounds-self-place
 bounds-self-place c =
     let t : Test = c.args.self.now in
-    omega (arith, held t c.args.place c.args.value _ c.places.ensures _ c.in-Some.ensures, t.short)
+    omega (arith, held t c.args.place c.args.value _ c.places.ensures _ c.in-Some.ensures, t.bounded.short)
 
 pub offset_bounds-self-place : goal.offset_bounds-self-place
 offset_bounds-self-place c =
     let t : Test = c.args.self.now in
     let low = held t c.args.place c.args.value _ c.places.ensures _ c.in-Some.ensures in
-    let short = t.short in
+    let short = t.bounded.short in
     search rules
 
 pub invariant_of-self : goal.invariant_of-self
 invariant_of-self c =
     let t : Test = c.args.self.now in
-    let s = sound t c.args.place c.args.value _ c.places.ensures _ c.in-Some.ensures in
     record {
-      room = length-set _ _ _ ∙ t.room;
-      short = t.short;
-      locations = t.locations;
-      threads = s.threads;
-      accessed = s.accessed;
-      targets = s.targets;
-      named = s.named;
-      few = s.few;
+      bounded = record {
+        room = length-set _ _ _ ∙ t.bounded.room;
+        short = t.bounded.short;
+        locations = t.bounded.locations;
+        places = bounded t c.args.place c.args.value _ c.places.ensures _ c.in-Some.ensures;
+      };
     }
 
 pub returns : goal.returns
