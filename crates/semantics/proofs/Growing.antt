@@ -1,6 +1,6 @@
 -- What holds of each place of a test, after a change.
-use Rattle.std.proofs.Common.{◌≡◌, ℕ, ◌<◌, true, false, cond, List, [], ◌∷◌, ◌++◌, length, take, set, sym, subst, ⊎_elim, arith, get_or-set_other, get_or-set_same}
-use Rattle.std.proofs.lemmas.List.{length-take, length-take-le, get_or_append_left, get_or_push, get_or_past, get_or-take, length_push}
+use Rattle.std.proofs.Common.{◌≡◌, ℕ, ◌<◌, true, false, cond, List, [], ◌∷◌, ◌++◌, length, take, get_or, set, sym, ◌∙◌, subst, ⊎_elim, arith, get_or-set_other, get_or-set_same}
+use Rattle.std.proofs.lemmas.List.{length-take, length-take-le, get_or_append_left, get_or_push, get_or_past, get_or_default, get_or-take, length_push}
 use Rattle.std.proofs.lemmas.List.Sums.{sum_by_push, sum_by-set, sum_by-take-le}
 use Rattle.std.proofs.lemmas.Bool.{cases_order, cases_eq, cases_lt, cases_Bool, cond-true, cond-false}
 use Rattle.semantics.specs.Bounds.{is_write_to, InBounds, FewWrites, PlacesInBounds, RoomFor}
@@ -8,6 +8,10 @@ use Rattle.semantics.specs.Contents.{places_of}
 use Rattle.semantics.specs.Program.{nothing, place_at}
 use Rattle.semantics.specs.declared.placed.Placed.{Placed}
 use Rattle.semantics.specs.declared.test.Test.{Test}
+
+-- what stands in a beginning of the places, whatever a look past the end gives
+pub at_front : (ps : List Placed) (end n : ℕ) (d e : Placed) → n < length (take end ps) → get_or (take end ps) n d ≡ get_or ps n e
+at_front ps end n d e h = get_or-take end ps n d (omega (arith, length-take end ps)) ∙ get_or_default ps n d e (omega (arith, length-take end ps))
 
 -- of what holds of each place, past the end too
 module _ (P : Placed → Type 0) (ps : List Placed) (all : (x : ℕ) → P (place_at ps x)) where

@@ -3,7 +3,6 @@ pub mod Between
 pub mod Fulfilment
 pub mod Growing
 pub mod Latests
-pub mod Naming
 pub mod Running
 pub mod Seeing
 pub mod Standing

@@ -1,14 +1,9 @@
 -- What registers hold after one more place.
-use Rattle.std.proofs.Common.{◌≡◌, ℕ, ◌+◌, ◌<◌, true, false, cond, List, length, take, get_or, set, Some, None, sym, refl, ap, ◌∙◌, subst, ⊎_elim, add-one, arith, get_or-set_other, get_or-set_same}
-use Rattle.std.proofs.lemmas.List.{get_or-take, get_or_default, length-take}
+use Rattle.std.proofs.Common.{◌≡◌, ℕ, ◌+◌, ◌<◌, true, false, cond, List, length, get_or, set, Some, None, sym, refl, ap, ◌∙◌, subst, ⊎_elim, add-one, get_or-set_other, get_or-set_same}
 use Rattle.std.proofs.lemmas.Bool.{cond-true, cond-false, and_from, and_left, and_right, eq-eqb, ne_eqb, cases_eq}
-use Rattle.semantics.specs.Program.{target_of, place_at, instruction_at, nothing}
+use Rattle.semantics.specs.Program.{target_of, place_at, instruction_at}
 use Rattle.semantics.specs.Values.{held, sets_register, is_target, result_of}
 use Rattle.semantics.specs.declared.placed.Placed.{Placed}
-
--- an instruction of a beginning of the places
-pub at_front : (ps : List Placed) (end n : ℕ) → n < length (take end ps) → (d : Placed) → get_or (take end ps) n d ≡ place_at ps n
-at_front ps end n h d = get_or-take end ps n d (omega (arith, length-take end ps, h)) ∙ get_or_default ps n d nothing (omega (arith, length-take end ps, h))
 
 module _ (ps : List Placed) (t n r : ℕ) where
   more : held ps t (n + 1) r ≡ cond (sets_register (place_at ps n) t r) (result_of (instruction_at ps n) (place_at ps n).expected (held ps t n)) (held ps t n r)

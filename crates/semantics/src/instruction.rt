@@ -1,5 +1,5 @@
 // Instructions of a thread.
-ghost use Rattle.std.specs.Prelude.{◌≡◌};
+ghost use Rattle.std.specs.Prelude.{◌≡◌, ◌↔◌, ℕ, Some, Contains};
 ghost use Rattle.models.specs.Tells.{Tells};
 ghost use Rattle.semantics.specs.Program.{Names, kind_of, target_of, location_of};
 
@@ -80,23 +80,33 @@ impl Instruction {
         }
     }
 
+    // The registers that the instruction names as sources or as its address register.
+    pub(crate) fn named(self) -> [Option<u8>; 2]
+        ensures { (register : ℕ) → Contains result (Some register) ↔ Names self register }
+    {
+        match self {
+            Instruction::Read { address, .. }
+            | Instruction::Write {
+                stored: Stored::Constant(_),
+                address,
+                ..
+            } => [None, address],
+            Instruction::Write {
+                stored: Stored::Register(source),
+                address,
+                ..
+            } => [Some(source), address],
+            Instruction::Fence => [None, None],
+            Instruction::Sum { first, second, .. }
+            | Instruction::Difference { first, second, .. } => [Some(first), Some(second)],
+            Instruction::Branch { source } => [Some(source), None],
+        }
+    }
+
     // Whether the instruction names this register as a source or as its address register.
     pub fn names(self, register: u8) -> bool
         ensures { Tells result (Names self register) }
     {
-        match self {
-            Instruction::Read { address, .. } => address == Some(register),
-            Instruction::Write {
-                stored,
-                address,
-                ..
-            } => stored == Stored::Register(register) || address == Some(register),
-            Instruction::Fence => false,
-            Instruction::Sum { first, second, .. }
-            | Instruction::Difference { first, second, .. } => {
-                first == register || second == register
-            }
-            Instruction::Branch { source } => source == register,
-        }
+        self.named().contains(&Some(register))
     }
 }

@@ -1,7 +1,10 @@
 use Rattle.std.proofs.Common.{◌≡◌, ◌<◌, length, sym, refl, ap, Some, None, ◌∙◌, arith, length-set}
 use Rattle.std.proofs.lemmas.List.{get_or-replicate}
+use Rattle.semantics.specs.Program.{nothing}
 use Rattle.semantics.specs.Values.{held}
-use Rattle.semantics.proofs.Running.{at_front, other_thread, no_target, at_target}
+use Rattle.semantics.specs.declared.placed.Placed.{Placed}
+use Rattle.semantics.proofs.Growing.{at_front}
+use Rattle.semantics.proofs.Running.{other_thread, no_target, at_target}
 use Rattle.semantics.proofs.values.registers_at.Goals as goal
 use Rattle.semantics.proofs.values.registers_at.Goals.{then-placed-thread+in-Some, else-placed-thread, else-placed-thread-via-else-placed-thread, else-placed-thread-via-then-placed-thread+in-None-1}
 
@@ -14,7 +17,7 @@ loop-placed-preserved c =
     let t = c.args.thread in
     let n = c.loop-placed.placed-index in
     let rs = c.loop-placed.registers in
-    let is = at_front ps c.args.end n c.loop-placed-test.true in
+    let is = λ (d : Placed). at_front ps c.args.end n d nothing c.loop-placed-test.true in
     let known = c.loop-placed.invariant.1 in
     elim c.if-placed-thread.branch [
       | then-placed-thread+in-Some w ↦

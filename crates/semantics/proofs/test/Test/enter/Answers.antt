@@ -38,7 +38,7 @@ returns c =
     let p : Placed = entered c.args.thread i in
     record {
       could = record {
-        thread = c.if-thread-gt3.false;
+        thread = omega arith;
         bounds = c.if-not-in_bounds.ensures;
         place = omega (arith, length_of t);
         writes = subst (λ (ps : List Placed). RoomFor ps i) c.places.ensures c.if-not-room_for.ensures;
