@@ -1,6 +1,7 @@
 -- What holds of each place of a test, after a change.
-use Rattle.std.proofs.Common.{◌≡◌, ℕ, ◌<◌, true, false, cond, List, [], ◌∷◌, ◌++◌, length, take, get_or, set, sym, ◌∙◌, subst, ⊎_elim, arith, get_or-set_other, get_or-set_same}
+use Rattle.std.proofs.Common.{All, ◌≡◌, ℕ, ◌<◌, true, false, cond, List, [], ◌∷◌, ◌++◌, length, take, get_or, set, sym, ◌∙◌, subst, ⊎_elim, arith, get_or-set_other, get_or-set_same}
 use Rattle.std.proofs.lemmas.List.{length-take, length-take-le, get_or_append_left, get_or_push, get_or_past, get_or_default, get_or-take, length_push}
+use Rattle.std.proofs.lemmas.List.Elements.{All-from_get_or, All-get_or, All-push, All-set, All-take}
 use Rattle.std.proofs.lemmas.List.Sums.{sum_by_push, sum_by-set, sum_by-take-le}
 use Rattle.std.proofs.lemmas.Bool.{cases_order, cases_eq, cases_lt, cases_Bool, cond-true, cond-false}
 use Rattle.semantics.specs.Bounds.{is_write_to, InBounds, FewWrites, PlacesInBounds, RoomFor}
@@ -13,49 +14,38 @@ use Rattle.semantics.specs.declared.test.Test.{Test}
 pub at_front : (ps : List Placed) (end n : ℕ) (d e : Placed) → n < length (take end ps) → get_or (take end ps) n d ≡ get_or ps n e
 at_front ps end n d e h = get_or-take end ps n d (omega (arith, length-take end ps)) ∙ get_or_default ps n d e (omega (arith, length-take end ps))
 
--- of what holds of each place, past the end too
-module _ (P : Placed → Type 0) (ps : List Placed) (all : (x : ℕ) → P (place_at ps x)) where
-  past_end : P nothing
-  past_end = subst P (get_or_past ps (length ps) nothing (omega arith)) (all (length ps))
+-- what holds of each place, past the end too
+abbrev Each : (Placed → Type 0) → List Placed → Type 0
+Each P ps = (x : ℕ) → P (place_at ps x)
 
-  each_push : (p : Placed) → P p → (x : ℕ) → P (place_at (ps ++ p ∷ []) x)
-  each_push p h x =
-      ⊎_elim
-      (λ e. subst P (sym (get_or_push ps p nothing x (sym e))) h)
-      (⊎_elim
-      (λ less. subst P (sym (get_or_append_left ps (p ∷ []) nothing x less)) (all x))
-      (λ over. subst P (sym (get_or_past (ps ++ p ∷ []) x nothing (omega (arith, length_push ps p)))) past_end))
-      (cases_order x (length ps))
+module _ (P : Placed → Type 0) (ps : List Placed) (each : Each P ps) where
+  all : All P ps
+  all = All-from_get_or P ps nothing (λ x h. each x)
 
-  each_set : (k : ℕ) (p : Placed) → k < length ps → P p → (x : ℕ) → P (place_at (set ps k p) x)
-  each_set k p within h x =
-      ⊎_elim
-      (λ e. subst (λ (y : ℕ). P (place_at (set ps k p) y)) (sym e) (subst P (sym (get_or-set_same ps k p nothing within)) h))
-      (λ ne. subst P (sym (get_or-set_other ps k x p nothing ne)) (all x))
-      (cases_eq x k)
+  -- what holds past the end of one list holds past the end of another
+  each_of : (qs : List Placed) → All P qs → Each P qs
+  each_of qs h x =
+      let past = subst P (get_or_past ps (length ps) nothing (omega arith)) (each (length ps)) in
+      ⊎_elim (λ less. All-get_or P qs x nothing less h) (λ over. subst P (sym (get_or_past qs x nothing over)) past) (cases_lt x (length qs))
 
-  each_take : (k : ℕ) (x : ℕ) → P (place_at (take k ps) x)
-  each_take k x =
-      ⊎_elim
-      (λ less. subst P (sym (get_or-take k ps x nothing less)) (all x))
-      (λ over. subst P (sym (get_or_past (take k ps) x nothing (omega (arith, length-take k ps)))) past_end)
-      (cases_lt x k)
+  each_push : (p : Placed) → P p → Each P (ps ++ p ∷ [])
+  each_push p h = each_of (ps ++ p ∷ []) (All-push P ps p all h)
+
+  each_set : (k : ℕ) (p : Placed) → P p → Each P (set ps k p)
+  each_set k p h = each_of (set ps k p) (All-set P ps k p h all)
+
+  each_take : (k : ℕ) → Each P (take k ps)
+  each_take k = each_of (take k ps) (All-take P k ps all)
 
 -- 1 for a write to location l, else 0
 abbrev tally : ℕ → Placed → ℕ
 tally l p = cond (is_write_to l p.instruction) 1 0
 
-counted_yes : (l : ℕ) (p : Placed) → is_write_to l p.instruction ≡ true → tally l p ≡ 1
-counted_yes l p e = cond-true _ _ _ e
-
-counted_no : (l : ℕ) (p : Placed) → is_write_to l p.instruction ≡ false → tally l p ≡ 0
-counted_no l p e = cond-false _ _ _ e
-
 few_push : (ps : List Placed) (p : Placed) → FewWrites ps → RoomFor ps p.instruction → FewWrites (ps ++ p ∷ [])
 few_push ps p few room l =
     ⊎_elim
-    (λ e. omega (arith, sum_by_push (tally l) ps p, counted_yes l p e, room l e))
-    (λ e. omega (arith, sum_by_push (tally l) ps p, counted_no l p e, few l))
+    (λ e. omega (arith, sum_by_push (tally l) ps p, cond-true {A = ℕ} _ 1 0 e, room l e))
+    (λ e. omega (arith, sum_by_push (tally l) ps p, cond-false {A = ℕ} _ 1 0 e, few l))
     (cases_Bool (is_write_to l p.instruction))
 
 few_set : (ps : List Placed) (k : ℕ) (p : Placed) → k < length ps → p.instruction ≡ (place_at ps k).instruction → FewWrites ps → FewWrites (set ps k p)
@@ -77,8 +67,8 @@ module _ (ps : List Placed) (bounded : PlacesInBounds ps) where
   -- the place keeps its thread and its instruction
   pub bounded_set : (k : ℕ) (p : Placed) → k < length ps → p.thread ≡ (place_at ps k).thread → p.instruction ≡ (place_at ps k).instruction → PlacesInBounds (set ps k p)
   bounded_set k p within thread same = record {
-    threads = each_set (λ q. q.thread < 4) ps bounded.threads k p within (subst (λ (t : ℕ). t < 4) (sym thread) (bounded.threads k));
-    instructions = each_set (λ q. InBounds q.instruction) ps bounded.instructions k p within (subst InBounds (sym same) (bounded.instructions k));
+    threads = each_set (λ q. q.thread < 4) ps bounded.threads k p (subst (λ (t : ℕ). t < 4) (sym thread) (bounded.threads k));
+    instructions = each_set (λ q. InBounds q.instruction) ps bounded.instructions k p (subst InBounds (sym same) (bounded.instructions k));
     writes = few_set ps k p within same bounded.writes;
   }
 
