@@ -1,9 +1,9 @@
 -- What holds of each place of a test, after a change.
-use Rattle.std.proofs.Common.{All, ◌≡◌, ℕ, ◌<◌, true, false, cond, List, [], ◌∷◌, ◌++◌, length, take, get_or, set, sym, ◌∙◌, subst, ⊎_elim, arith, get_or-set_other, get_or-set_same}
-use Rattle.std.proofs.lemmas.List.{length-take, length-take-le, get_or_append_left, get_or_push, get_or_past, get_or_default, get_or-take, length_push}
+use Rattle.std.proofs.Common.{All, ◌≡◌, ℕ, ◌<◌, cond, List, [], ◌∷◌, ◌++◌, length, take, get_or, set, sym, ◌∙◌, subst, ⊎_elim, arith}
+use Rattle.std.proofs.lemmas.List.{length-take, length-take-le, get_or_past, get_or_default, get_or-take}
 use Rattle.std.proofs.lemmas.List.Elements.{All-from_get_or, All-get_or, All-push, All-set, All-take}
 use Rattle.std.proofs.lemmas.List.Sums.{sum_by_push, sum_by-set, sum_by-take-le}
-use Rattle.std.proofs.lemmas.Bool.{cases_order, cases_eq, cases_lt, cases_Bool, cond-true, cond-false}
+use Rattle.std.proofs.lemmas.Bool.{cases_lt, cases_Bool, cond-true, cond-false}
 use Rattle.semantics.specs.Bounds.{is_write_to, InBounds, FewWrites, PlacesInBounds, RoomFor}
 use Rattle.semantics.specs.Contents.{places_of}
 use Rattle.semantics.specs.Program.{nothing, place_at}

@@ -1,5 +1,4 @@
 pub mod Accessing
-pub mod Between
 pub mod Fulfilment
 pub mod Growing
 pub mod Latests

@@ -1,5 +1,5 @@
 -- What registers hold after one more place.
-use Rattle.std.proofs.Common.{◌≡◌, ℕ, ◌+◌, ◌<◌, true, false, cond, List, length, get_or, set, Some, None, sym, refl, ap, ◌∙◌, ⊎_elim, add-one, get_or-set_other, get_or-set_same}
+use Rattle.std.proofs.Common.{◌≡◌, ℕ, ◌+◌, ◌<◌, false, cond, List, length, get_or, set, Some, None, sym, refl, ap, ◌∙◌, ⊎_elim, add-one, get_or-set_other, get_or-set_same}
 use Rattle.std.proofs.lemmas.Bool.{cond-true, cond-false, and_from, and_left, and_right, eq-eqb, ne_eqb, cases_eq}
 use Rattle.semantics.specs.Program.{target_of, place_at}
 use Rattle.semantics.specs.Values.{held, sets_register, is_target, result_of}

@@ -13,9 +13,6 @@ use Rattle.semantics.proofs.test.Test.enter.Goals as goal
 grown : (t : Test) (p : Placed) → t.len < 32 → take (t.len + 1) (set t.slots t.len p) ≡ places_of t ++ p ∷ []
 grown t p h = take_more_set t.slots t.len p (omega (arith, t.bounded.room))
 
-pub bounds-self-place : goal.bounds-self-place
-bounds-self-place c = c.if-place-ge-PLACES.false
-
 pub invariant_of-self : goal.invariant_of-self
 invariant_of-self c =
     let t : Test = c.args.self.now in
