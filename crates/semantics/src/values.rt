@@ -11,7 +11,7 @@ const NUMBERS: usize = 256;
 
 // What an instruction puts into its target, where the registers hold this: a read yields its expected value.
 fn result_of(placed: Placed, registers: &[u8; NUMBERS]) -> u8
-    ensures { (held : ℕ → ℕ) → ((k : ℕ) → k < 256 → slice_index registers.now k ≡ held k) → result ≡ result_of placed.instruction placed.expected held }
+    ensures { (held : ℕ → ℕ) → ((k : ℕ) → k < NUMBERS → slice_index registers.now k ≡ held k) → result ≡ result_of placed.instruction placed.expected held }
 {
     match placed.instruction {
         Instruction::Read { .. } => placed.expected.unwrap_or(0),
@@ -28,7 +28,7 @@ fn result_of(placed: Placed, registers: &[u8; NUMBERS]) -> u8
 // What the registers of a thread hold once it has run its instructions at the first `end` places.
 fn registers_at(places: &[Placed], thread: u8, end: usize) -> [u8; NUMBERS]
     requires { end ≤ length places.now }
-    ensures { (length result ≡ 256) × ((k : ℕ) → k < 256 → slice_index result k ≡ held places.now thread end k) }
+    ensures { (length result ≡ NUMBERS) × ((k : ℕ) → k < NUMBERS → slice_index result k ≡ held places.now thread end k) }
 {
     let mut registers = [0; NUMBERS];
     for placed in &places[..end] {
