@@ -1,57 +1,51 @@
 -- What holds of each place of a test, after a change.
-use Rattle.std.proofs.Common.{◌≡◌, ℕ, ◌<◌, true, false, cond, List, [], ◌∷◌, ◌++◌, length, take, set, sym, subst, ⊎_elim, arith, get_or-set_other, get_or-set_same}
-use Rattle.std.proofs.lemmas.List.{length-take, length-take-le, get_or_append_left, get_or_push, get_or_past, get_or-take, length_push}
+use Rattle.std.proofs.Common.{All, ◌≡◌, ℕ, ◌<◌, cond, List, [], ◌∷◌, ◌++◌, length, take, get_or, set, sym, ◌∙◌, subst, ⊎_elim, arith}
+use Rattle.std.proofs.lemmas.List.{length-take, length-take-le, get_or_past, get_or_default, get_or-take}
+use Rattle.std.proofs.lemmas.List.Elements.{All-from_get_or, All-get_or, All-push, All-set, All-take}
 use Rattle.std.proofs.lemmas.List.Sums.{sum_by_push, sum_by-set, sum_by-take-le}
-use Rattle.std.proofs.lemmas.Bool.{cases_order, cases_eq, cases_lt, cases_Bool, cond-true, cond-false}
-use Rattle.semantics.specs.Bounds.{is_write_to, InBounds, ThreadsInBounds, EachInstruction, LocationInBounds, TargetInBounds, NamedInBounds, FewWrites, RoomFor}
+use Rattle.std.proofs.lemmas.Bool.{cases_lt, cases_Bool, cond-true, cond-false}
+use Rattle.semantics.specs.Bounds.{is_write_to, InBounds, FewWrites, PlacesInBounds, RoomFor}
 use Rattle.semantics.specs.Contents.{places_of}
 use Rattle.semantics.specs.Program.{nothing, place_at}
 use Rattle.semantics.specs.declared.placed.Placed.{Placed}
 use Rattle.semantics.specs.declared.test.Test.{Test}
 
--- of what holds of each place, past the end too
-module _ (P : Placed → Type 0) (ps : List Placed) (all : (x : ℕ) → P (place_at ps x)) where
-  past_end : P nothing
-  past_end = subst P (get_or_past ps (length ps) nothing (omega arith)) (all (length ps))
+-- what stands in a beginning of the places, whatever a look past the end gives
+pub at_front : (ps : List Placed) (end n : ℕ) (d e : Placed) → n < length (take end ps) → get_or (take end ps) n d ≡ get_or ps n e
+at_front ps end n d e h = get_or-take end ps n d (omega (arith, length-take end ps)) ∙ get_or_default ps n d e (omega (arith, length-take end ps))
 
-  each_push : (p : Placed) → P p → (x : ℕ) → P (place_at (ps ++ p ∷ []) x)
-  each_push p h x =
-      ⊎_elim
-      (λ e. subst P (sym (get_or_push ps p nothing x (sym e))) h)
-      (⊎_elim
-      (λ less. subst P (sym (get_or_append_left ps (p ∷ []) nothing x less)) (all x))
-      (λ over. subst P (sym (get_or_past (ps ++ p ∷ []) x nothing (omega (arith, length_push ps p)))) past_end))
-      (cases_order x (length ps))
+-- what holds of each place, past the end too
+abbrev Each : (Placed → Type 0) → List Placed → Type 0
+Each P ps = (x : ℕ) → P (place_at ps x)
 
-  each_set : (k : ℕ) (p : Placed) → k < length ps → P p → (x : ℕ) → P (place_at (set ps k p) x)
-  each_set k p within h x =
-      ⊎_elim
-      (λ e. subst (λ (y : ℕ). P (place_at (set ps k p) y)) (sym e) (subst P (sym (get_or-set_same ps k p nothing within)) h))
-      (λ ne. subst P (sym (get_or-set_other ps k x p nothing ne)) (all x))
-      (cases_eq x k)
+module _ (P : Placed → Type 0) (ps : List Placed) (each : Each P ps) where
+  all : All P ps
+  all = All-from_get_or P ps nothing (λ x h. each x)
 
-  each_take : (k : ℕ) (x : ℕ) → P (place_at (take k ps) x)
-  each_take k x =
-      ⊎_elim
-      (λ less. subst P (sym (get_or-take k ps x nothing less)) (all x))
-      (λ over. subst P (sym (get_or_past (take k ps) x nothing (omega (arith, length-take k ps)))) past_end)
-      (cases_lt x k)
+  -- what holds past the end of one list holds past the end of another
+  each_of : (qs : List Placed) → All P qs → Each P qs
+  each_of qs h x =
+      let past = subst P (get_or_past ps (length ps) nothing (omega arith)) (each (length ps)) in
+      ⊎_elim (λ less. All-get_or P qs x nothing less h) (λ over. subst P (sym (get_or_past qs x nothing over)) past) (cases_lt x (length qs))
+
+  each_push : (p : Placed) → P p → Each P (ps ++ p ∷ [])
+  each_push p h = each_of (ps ++ p ∷ []) (All-push P ps p all h)
+
+  each_set : (k : ℕ) (p : Placed) → P p → Each P (set ps k p)
+  each_set k p h = each_of (set ps k p) (All-set P ps k p h all)
+
+  each_take : (k : ℕ) → Each P (take k ps)
+  each_take k = each_of (take k ps) (All-take P k ps all)
 
 -- 1 for a write to location l, else 0
 abbrev tally : ℕ → Placed → ℕ
 tally l p = cond (is_write_to l p.instruction) 1 0
 
-counted_yes : (l : ℕ) (p : Placed) → is_write_to l p.instruction ≡ true → tally l p ≡ 1
-counted_yes l p e = cond-true _ _ _ e
-
-counted_no : (l : ℕ) (p : Placed) → is_write_to l p.instruction ≡ false → tally l p ≡ 0
-counted_no l p e = cond-false _ _ _ e
-
 few_push : (ps : List Placed) (p : Placed) → FewWrites ps → RoomFor ps p.instruction → FewWrites (ps ++ p ∷ [])
 few_push ps p few room l =
     ⊎_elim
-    (λ e. omega (arith, sum_by_push (tally l) ps p, counted_yes l p e, room l e))
-    (λ e. omega (arith, sum_by_push (tally l) ps p, counted_no l p e, few l))
+    (λ e. omega (arith, sum_by_push (tally l) ps p, cond-true {A = ℕ} _ 1 0 e, room l e))
+    (λ e. omega (arith, sum_by_push (tally l) ps p, cond-false {A = ℕ} _ 1 0 e, few l))
     (cases_Bool (is_write_to l p.instruction))
 
 few_set : (ps : List Placed) (k : ℕ) (p : Placed) → k < length ps → p.instruction ≡ (place_at ps k).instruction → FewWrites ps → FewWrites (set ps k p)
@@ -62,45 +56,28 @@ few_set ps k p within same few l =
 few_take : (ps : List Placed) (k : ℕ) → FewWrites ps → FewWrites (take k ps)
 few_take ps k few l = omega (arith, sum_by-take-le (tally l) ps k, few l)
 
--- what the type of a test says of its places
-pub record Sound (ps : List Placed) : Type 0 where
-  pub threads : ThreadsInBounds ps
-  pub accessed : EachInstruction LocationInBounds ps
-  pub targets : EachInstruction TargetInBounds ps
-  pub named : EachInstruction NamedInBounds ps
-  pub few : FewWrites ps
-
-module _ (ps : List Placed) (sound : Sound ps) where
-  pub sound_push : (p : Placed) → p.thread < 4 → InBounds p.instruction → RoomFor ps p.instruction → Sound (ps ++ p ∷ [])
-  sound_push p thread bounds room = record {
-    threads = each_push (λ q. q.thread < 4) ps sound.threads p thread;
-    accessed = each_push (λ q. LocationInBounds q.instruction) ps sound.accessed p bounds.location;
-    targets = each_push (λ q. TargetInBounds q.instruction) ps sound.targets p bounds.target;
-    named = each_push (λ q. NamedInBounds q.instruction) ps sound.named p bounds.named;
-    few = few_push ps p sound.few room;
+module _ (ps : List Placed) (bounded : PlacesInBounds ps) where
+  pub bounded_push : (p : Placed) → p.thread < 4 → InBounds p.instruction → RoomFor ps p.instruction → PlacesInBounds (ps ++ p ∷ [])
+  bounded_push p thread bounds room = record {
+    threads = each_push (λ q. q.thread < 4) ps bounded.threads p thread;
+    instructions = each_push (λ q. InBounds q.instruction) ps bounded.instructions p bounds;
+    writes = few_push ps p bounded.writes room;
   }
 
   -- the place keeps its thread and its instruction
-  pub sound_set : (k : ℕ) (p : Placed) → k < length ps → p.thread ≡ (place_at ps k).thread → p.instruction ≡ (place_at ps k).instruction → Sound (set ps k p)
-  sound_set k p within thread same = record {
-    threads = each_set (λ q. q.thread < 4) ps sound.threads k p within (subst (λ (t : ℕ). t < 4) (sym thread) (sound.threads k));
-    accessed = each_set (λ q. LocationInBounds q.instruction) ps sound.accessed k p within (subst LocationInBounds (sym same) (sound.accessed k));
-    targets = each_set (λ q. TargetInBounds q.instruction) ps sound.targets k p within (subst TargetInBounds (sym same) (sound.targets k));
-    named = each_set (λ q. NamedInBounds q.instruction) ps sound.named k p within (subst NamedInBounds (sym same) (sound.named k));
-    few = few_set ps k p within same sound.few;
+  pub bounded_set : (k : ℕ) (p : Placed) → k < length ps → p.thread ≡ (place_at ps k).thread → p.instruction ≡ (place_at ps k).instruction → PlacesInBounds (set ps k p)
+  bounded_set k p within thread same = record {
+    threads = each_set (λ q. q.thread < 4) ps bounded.threads k p (subst (λ (t : ℕ). t < 4) (sym thread) (bounded.threads k));
+    instructions = each_set (λ q. InBounds q.instruction) ps bounded.instructions k p (subst InBounds (sym same) (bounded.instructions k));
+    writes = few_set ps k p within same bounded.writes;
   }
 
-  pub sound_take : (k : ℕ) → Sound (take k ps)
-  sound_take k = record {
-    threads = each_take (λ q. q.thread < 4) ps sound.threads k;
-    accessed = each_take (λ q. LocationInBounds q.instruction) ps sound.accessed k;
-    targets = each_take (λ q. TargetInBounds q.instruction) ps sound.targets k;
-    named = each_take (λ q. NamedInBounds q.instruction) ps sound.named k;
-    few = few_take ps k sound.few;
+  pub bounded_take : (k : ℕ) → PlacesInBounds (take k ps)
+  bounded_take k = record {
+    threads = each_take (λ q. q.thread < 4) ps bounded.threads k;
+    instructions = each_take (λ q. InBounds q.instruction) ps bounded.instructions k;
+    writes = few_take ps k bounded.writes;
   }
-
-pub sound_of : (t : Test) → Sound (places_of t)
-sound_of t = record { threads = t.threads; accessed = t.accessed; targets = t.targets; named = t.named; few = t.few }
 
 pub length_of : (t : Test) → length (places_of t) ≡ t.len
-length_of t = length-take-le t.len t.slots (omega (arith, t.room, t.short))
+length_of t = length-take-le t.len t.slots (omega (arith, t.bounded.room, t.bounded.short))

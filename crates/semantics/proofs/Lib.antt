@@ -2,7 +2,6 @@ pub mod Accessing
 pub mod Fulfilment
 pub mod Growing
 pub mod Latests
-pub mod Naming
 pub mod Running
 pub mod Seeing
 pub mod Standing

@@ -1,5 +1,5 @@
 -- How large a test may be.
-use Rattle.std.specs.Prelude.{◌≡◌, ℕ, ◌<◌, ◌≤◌, Bool, true, false, List, Some, count_by, ◌==◌}
+use Rattle.std.specs.Prelude.{◌≡◌, ℕ, ◌<◌, ◌≤◌, Bool, true, false, List, length, take, Some, count_by, ◌==◌}
 use Rattle.semantics.specs.Program.{location_of, target_of, Names, instruction_at, thread_at}
 use Rattle.semantics.specs.declared.instruction.Instruction.{Instruction}
 use Rattle.semantics.specs.declared.instruction.Instruction.TheVariants.{Read, Write, Fence, Sum, Difference, Branch}
@@ -45,6 +45,19 @@ EachInstruction P ps = (x : ℕ) → P (instruction_at ps x)
 -- at most four write to a location
 abbrev pub FewWrites : List Placed → Type 0
 FewWrites ps = (l : ℕ) → write_count l ps ≤ 4
+
+-- the instructions of a test are in bounds
+pub record PlacesInBounds (ps : List Placed) : Type 0 where
+  pub threads : ThreadsInBounds ps
+  pub instructions : EachInstruction InBounds ps
+  pub writes : FewWrites ps
+
+-- what a test's fields keep: there are 32 slots, the first of which are its places, and 4 initial values
+pub record Bounded (slots : List Placed) (len : ℕ) (initial : List ℕ) : Type 0 where
+  pub room : length slots ≡ 32
+  pub short : len ≤ 32
+  pub locations : length initial ≡ 4
+  pub places : PlacesInBounds (take len slots)
 
 -- the instruction would be no fifth write to a location
 abbrev pub RoomFor : List Placed → Instruction → Type 0

@@ -9,5 +9,4 @@ pub mod PairFacts
 pub mod Parts
 pub mod Program
 pub mod Refusals
-pub mod Soughts
 pub mod Values

@@ -16,6 +16,14 @@ SameAddr ps x y = (l : ℕ) × (location_of (instruction_at ps x) ≡ Some l) ×
 abbrev pub NoneBetween : List Placed → ℕ → ℕ → (Instruction → Type 0) → Type 0
 NoneBetween ps x y Such = (z : ℕ) → Precedes ps x z → Precedes ps z y → Such (instruction_at ps z) → ⊥
 
+-- everything between x and y in their thread is such an instruction
+abbrev pub EachBetween : List Placed → ℕ → ℕ → (Instruction → Type 0) → Type 0
+EachBetween ps x y Such = (z : ℕ) → Precedes ps x z → Precedes ps z y → Such (instruction_at ps z)
+
+-- something between them is
+abbrev pub SomeBetween : List Placed → ℕ → ℕ → (Instruction → Type 0) → Type 0
+SomeBetween ps x y Such = (z : ℕ) × Precedes ps x z × Precedes ps z y × Such (instruction_at ps z)
+
 -- the instruction has the register as its target
 abbrev pub Sets : ℕ → Instruction → Type 0
 Sets r i = target_of i ≡ Some r

@@ -1,5 +1,6 @@
--- The numbers of refusals.
-use Rattle.std.specs.Prelude.{ℕ}
+-- The numbers of refusals, and their texts.
+use Rattle.std.specs.Prelude.{ℕ, List, ◌++◌, codes}
+use Rattle.std.specs.Fmt.{decimal}
 use Rattle.semantics.specs.declared.refusal.Refusal.{Refusal}
 use Rattle.semantics.specs.declared.refusal.Refusal.TheVariants.{NoThread, OutOfBounds, Full, FifthWrite, NoRead, Empty}
 
@@ -10,3 +11,7 @@ number_of Full = 3
 number_of FifthWrite = 4
 number_of NoRead = 5
 number_of Empty = 6
+
+-- such as "refused 3"
+abbrev pub text_of : Refusal → List ℕ
+text_of refusal = codes "refused " ++ decimal (number_of refusal)

@@ -1,26 +1,16 @@
 // How a test is made.
-ghost use Rattle.std.specs.Prelude.{◌≡◌, ◌<◌, [], length, MatchOption, MatchResult, ◌≢◌};
+ghost use Rattle.std.specs.Prelude.{◌≡◌, ◌<◌, [], length, MatchResult, ◌≢◌};
 ghost use Rattle.models.specs.declared.Kind.TheVariants.{Read as ReadKind};
 ghost use Rattle.semantics.specs.Building.{Entered, EnterRefused, Preset, Expected, Struck};
 ghost use Rattle.semantics.specs.Contents.{places_of, initial_of, zeros};
 ghost use Rattle.semantics.specs.Program.{kind_of, instruction_at, place_at};
 
-use crate::bounds::{in_bounds, room_for};
+use crate::bounds::{THREADS, in_bounds, room_for};
 use crate::instruction::Instruction;
 use crate::placed::{NOTHING, Placed, place_at};
 use crate::refusal::Refusal;
 use crate::test::{LOCATIONS, PLACES, Test};
-
-// The read at this place, if there is one.
-fn read_at(places: &[Placed], place: usize) -> Option<Placed>
-    ensures { MatchOption result (kind_of (instruction_at places.now place) ≢ ReadKind) (λ p. (p ≡ place_at places.now place) × (kind_of (instruction_at places.now place) ≡ ReadKind)) }
-{
-    let placed = place_at(places, place);
-    match placed.instruction {
-        Instruction::Read { .. } => Some(placed),
-        _ => None,
-    }
-}
+use models::Kind;
 
 impl Test {
     // A test with no instruction, all of whose initial values are 0.
@@ -38,7 +28,7 @@ impl Test {
     pub fn places(&self) -> &[Placed]
         ensures { result.now ≡ places_of self.now }
     {
-        &self.slots[0..self.len]
+        &self.slots[..self.len]
     }
 
     // The initial values by location.
@@ -52,7 +42,7 @@ impl Test {
     pub fn enter(&mut self, thread: u8, instruction: Instruction) -> Result<usize, Refusal>
         ensures { MatchResult result (Entered self.old self.new thread instruction) (λ e. (self.new ≡ self.old) × EnterRefused (places_of self.old) thread instruction e) }
     {
-        if thread > 3 {
+        if usize::from(thread) >= THREADS {
             return Err(Refusal::NoThread);
         }
         if !in_bounds(instruction) {
@@ -78,10 +68,11 @@ impl Test {
     pub fn preset(&mut self, location: u8, value: u8) -> Result<(), Refusal>
         ensures { MatchResult result (λ _. Preset self.old self.new location value) (λ e. (self.new ≡ self.old) × (e ≡ Refusal.OutOfBounds) × (3 < location)) }
     {
-        if location > 3 {
+        let location = usize::from(location);
+        if location >= LOCATIONS {
             return Err(Refusal::OutOfBounds);
         }
-        self.initial[location as usize] = value;
+        self.initial[location] = value;
         Ok(())
     }
 
@@ -89,13 +80,10 @@ impl Test {
     pub fn expect(&mut self, place: usize, value: u8) -> Result<(), Refusal>
         ensures { MatchResult result (λ _. Expected self.old self.new place value) (λ e. (self.new ≡ self.old) × (e ≡ Refusal.NoRead) × (kind_of (instruction_at (places_of self.old) place) ≢ ReadKind)) }
     {
-        let Some(placed) = read_at(self.places(), place) else {
+        if place_at(self.places(), place).instruction.kind() != Kind::Read {
             return Err(Refusal::NoRead);
-        };
-        self.slots[place] = Placed {
-            expected: Some(value),
-            ..placed
-        };
+        }
+        self.slots[place].expected = Some(value);
         Ok(())
     }
 
@@ -103,10 +91,7 @@ impl Test {
     pub fn strike(&mut self) -> Result<(), Refusal>
         ensures { MatchResult result (λ _. Struck self.old self.new) (λ e. (self.new ≡ self.old) × (e ≡ Refusal.Empty) × (length (places_of self.old) ≡ 0)) }
     {
-        if self.len == 0 {
-            return Err(Refusal::Empty);
-        }
-        self.len -= 1;
+        self.len = self.len.checked_sub(1).ok_or(Refusal::Empty)?;
         Ok(())
     }
 }

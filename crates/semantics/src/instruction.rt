@@ -1,18 +1,18 @@
 // Instructions of a thread.
-ghost use Rattle.std.specs.Prelude.{◌≡◌};
+ghost use Rattle.std.specs.Prelude.{◌≡◌, ◌↔◌, ℕ, Some, Contains};
 ghost use Rattle.models.specs.Tells.{Tells};
 ghost use Rattle.semantics.specs.Program.{Names, kind_of, target_of, location_of};
 
 use models::Kind;
 
 // What a write stores.
-#[derive(Clone, Copy)]
+#[derive(Clone, Copy, Debug, PartialEq, Eq)]
 pub enum Stored {
     Constant(u8),
     Register(u8),
 }
 
-#[derive(Clone, Copy)]
+#[derive(Clone, Copy, Debug, PartialEq, Eq)]
 pub enum Instruction {
     Read {
         location: u8,
@@ -51,8 +51,7 @@ impl Instruction {
             Instruction::Read { .. } => Kind::Read,
             Instruction::Write { .. } => Kind::Write,
             Instruction::Fence => Kind::Fence,
-            Instruction::Sum { .. } => Kind::Arithmetic,
-            Instruction::Difference { .. } => Kind::Arithmetic,
+            Instruction::Sum { .. } | Instruction::Difference { .. } => Kind::Arithmetic,
             Instruction::Branch { .. } => Kind::Branch,
         }
     }
@@ -62,8 +61,9 @@ impl Instruction {
         ensures { result ≡ location_of self }
     {
         match self {
-            Instruction::Read { location, .. } => Some(location),
-            Instruction::Write { location, .. } => Some(location),
+            Instruction::Read { location, .. } | Instruction::Write { location, .. } => {
+                Some(location)
+            }
             _ => None,
         }
     }
@@ -73,10 +73,33 @@ impl Instruction {
         ensures { result ≡ target_of self }
     {
         match self {
-            Instruction::Read { target, .. } => Some(target),
-            Instruction::Sum { target, .. } => Some(target),
-            Instruction::Difference { target, .. } => Some(target),
+            Instruction::Read { target, .. }
+            | Instruction::Sum { target, .. }
+            | Instruction::Difference { target, .. } => Some(target),
             _ => None,
+        }
+    }
+
+    // The registers that the instruction names as sources or as its address register.
+    pub(crate) fn named(self) -> [Option<u8>; 2]
+        ensures { (register : ℕ) → Contains result (Some register) ↔ Names self register }
+    {
+        match self {
+            Instruction::Read { address, .. }
+            | Instruction::Write {
+                stored: Stored::Constant(_),
+                address,
+                ..
+            } => [None, address],
+            Instruction::Write {
+                stored: Stored::Register(source),
+                address,
+                ..
+            } => [Some(source), address],
+            Instruction::Fence => [None, None],
+            Instruction::Sum { first, second, .. }
+            | Instruction::Difference { first, second, .. } => [Some(first), Some(second)],
+            Instruction::Branch { source } => [Some(source), None],
         }
     }
 
@@ -84,19 +107,6 @@ impl Instruction {
     pub fn names(self, register: u8) -> bool
         ensures { Tells result (Names self register) }
     {
-        match self {
-            Instruction::Read { address, .. } => address == Some(register),
-            Instruction::Write {
-                stored: Stored::Register(source),
-                address,
-                ..
-            } => source == register || address == Some(register),
-            Instruction::Write { address, .. } => address == Some(register),
-            Instruction::Fence => false,
-            Instruction::Sum { first, second, .. } => first == register || second == register,
-            Instruction::Difference { first, second, .. } => first == register
-                || second == register,
-            Instruction::Branch { source } => source == register,
-        }
+        self.named().contains(&Some(register))
     }
 }

@@ -1,8 +1,8 @@
 // The facts of an earlier and a later instruction of one thread.
+ghost use Rattle.std.specs.Prelude.{Bool, true, false, MatchBool};
 ghost use Rattle.models.specs.Tells.{Tells};
-ghost use Rattle.semantics.specs.PairFacts.{NoneBetween, SameAddr, DataDep, ControlDep, HasFacts};
+ghost use Rattle.semantics.specs.PairFacts.{EachBetween, SomeBetween, SameAddr, DataDep, ControlDep, HasFacts};
 ghost use Rattle.semantics.specs.Program.{Precedes};
-ghost use Rattle.semantics.specs.Soughts.{Fits};
 
 use crate::instruction::Instruction;
 use crate::placed::{Placed, place_at};
@@ -18,59 +18,33 @@ pub(crate) fn precedes(places: &[Placed], x: usize, y: usize) -> bool
 fn same_addr(places: &[Placed], x: usize, y: usize) -> bool
     ensures { Tells result (SameAddr places.now x y) }
 {
-    let earlier = place_at(places, x).instruction.location();
-    let later = place_at(places, y).instruction.location();
-    match (earlier, later) {
-        (Some(earlier), Some(later)) => earlier == later,
-        _ => false,
-    }
+    let Some(location) = place_at(places, x).instruction.location() else {
+        return false;
+    };
+    place_at(places, y).instruction.location() == Some(location)
 }
 
-// What an instruction between two others may be, so that they do not depend on one another.
-#[derive(Clone, Copy)]
-enum Sought {
-    // it sets this register
-    Setting(u8),
-    Write,
-}
-
-impl Sought {
-    fn fits(self, instruction: Instruction) -> bool
-        ensures { Tells result (Fits self instruction) }
-    {
-        match self {
-            Sought::Setting(register) => instruction.target() == Some(register),
-            Sought::Write => instruction.kind() == Kind::Write,
-        }
-    }
-}
-
-// Whether nothing between x and y in their thread is what is sought.
-fn none_between(places: &[Placed], x: usize, y: usize, sought: Sought) -> bool
-    ensures { Tells result (NoneBetween places.now x y (Fits sought)) }
+// Whether nothing between x and y in their thread is such an instruction.
+fn none_between<F: Fn(Instruction) -> bool>(places: &[Placed], x: usize, y: usize, such: F) -> bool
+    requires { F.IsAlwaysCallable such }
+    ensures { MatchBool result
+        (EachBetween places.now x y (λ i. F.post such i false))
+        (SomeBetween places.now x y (λ i. F.post such i true)) }
 {
-    for z in x..y {
-        if precedes(places, x, z)
-            && precedes(places, z, y)
-            && sought.fits(place_at(places, z).instruction)
-        {
-            return false;
-        }
-    }
-    true
+    !(x..y).any(|z| {
+        precedes(places, x, z) && precedes(places, z, y) && such(place_at(places, z).instruction)
+    })
 }
 
 // Whether y names the target of x, and nothing between them has that target.
 fn data_dep(places: &[Placed], x: usize, y: usize) -> bool
     ensures { Tells result (DataDep places.now x y) }
 {
-    match place_at(places, x).instruction.target() {
-        Some(target) => {
-            place_at(places, y).instruction.names(target)
-                && none_between(places, x, y, Sought::Setting(target))
-        }
-        None => false,
-    }
+    let Some(target) = place_at(places, x).instruction.target() else {
+        return false;
+    };
+    place_at(places, y).instruction.names(target)
+        && none_between(places, x, y, |between| between.target() == Some(target))
 }
 
 // Whether x is a branch, and y is the first write after it.
@@ -79,7 +53,9 @@ fn control_dep(places: &[Placed], x: usize, y: usize) -> bool
 {
     let earlier = place_at(places, x).instruction.kind();
     let later = place_at(places, y).instruction.kind();
-    earlier == Kind::Branch && later == Kind::Write && none_between(places, x, y, Sought::Write)
+    earlier == Kind::Branch
+        && later == Kind::Write
+        && none_between(places, x, y, |between| between.kind() == Kind::Write)
 }
 
 // The facts of x, the earlier, and y, the later of two instructions of one thread.

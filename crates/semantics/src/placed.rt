@@ -5,7 +5,7 @@ ghost use Rattle.semantics.specs.Program.{place_at};
 use crate::instruction::Instruction;
 
 // An instruction, the thread that has it and, of a read, the value that the outcome expects of it.
-#[derive(Clone, Copy)]
+#[derive(Clone, Copy, Debug, PartialEq, Eq)]
 pub struct Placed {
     pub thread: u8,
     pub instruction: Instruction,
@@ -23,9 +23,5 @@ pub(crate) const NOTHING: Placed = Placed {
 pub(crate) fn place_at(places: &[Placed], place: usize) -> Placed
     ensures { result ≡ place_at places.now place }
 {
-    if place < places.len() {
-        places[place]
-    } else {
-        NOTHING
-    }
+    places.get(place).copied().unwrap_or(NOTHING)
 }

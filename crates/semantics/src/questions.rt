@@ -35,11 +35,7 @@ impl Test {
         ensures { MatchOption result (Precedes (places_of self.now) x y → ⊥) (λ f. Precedes (places_of self.now) x y × HasFacts (places_of self.now) x y f) }
     {
         let places = self.places();
-        if precedes(places, x, y) {
-            Some(facts_of(places, x, y))
-        } else {
-            None
-        }
+        precedes(places, x, y).then(|| facts_of(places, x, y))
     }
 
     // Whether each read has an expected value: these together are the outcome.
@@ -53,7 +49,6 @@ impl Test {
     pub fn fulfils<M: Model>(&self, model: &M, order: &[usize]) -> bool
         ensures { Tells result (Complete (places_of self.now) × Fulfils (events_of (places_of self.now) (initial_of self.now) (M.Model.meaning model.now)) order.now) }
     {
-        let initial = self.initial();
-        fulfils(self.places(), &initial, model, order)
+        fulfils(self.places(), &self.initial(), model, order)
     }
 }

@@ -1,41 +1,41 @@
 // What registers hold, and what writes store.
-ghost use Rattle.std.specs.Prelude.{◌≡◌, ℕ, ◌<◌, length, slice_index};
+ghost use Rattle.std.specs.Prelude.{◌≡◌, ℕ, ◌<◌, ◌≤◌, length, slice_index};
 ghost use Rattle.semantics.specs.Program.{instruction_at};
 ghost use Rattle.semantics.specs.Values.{held, result_of, stores};
 
 use crate::instruction::{Instruction, Stored};
-use crate::placed::{Placed, place_at};
+use crate::placed::Placed;
 
-// A register for every number that a byte can have, so that no index wants a bound.
-const REGISTERS: usize = 256;
+// As many registers as there are numbers in a byte, so that no index wants a bound.
+const NUMBERS: usize = 256;
 
 // What an instruction puts into its target, where the registers hold this: a read yields its expected value.
-fn result_of(placed: Placed, registers: &[u8; REGISTERS]) -> u8
-    ensures { (held : ℕ → ℕ) → ((k : ℕ) → k < 256 → slice_index registers.now k ≡ held k) → result ≡ result_of placed.instruction placed.expected held }
+fn result_of(placed: Placed, registers: &[u8; NUMBERS]) -> u8
+    ensures { (held : ℕ → ℕ) → ((k : ℕ) → k < NUMBERS → slice_index registers.now k ≡ held k) → result ≡ result_of placed.instruction placed.expected held }
 {
     match placed.instruction {
         Instruction::Read { .. } => placed.expected.unwrap_or(0),
         Instruction::Sum { first, second, .. } => {
-            registers[first as usize].wrapping_add(registers[second as usize])
+            registers[usize::from(first)].wrapping_add(registers[usize::from(second)])
         }
         Instruction::Difference { first, second, .. } => {
-            registers[first as usize].wrapping_sub(registers[second as usize])
+            registers[usize::from(first)].wrapping_sub(registers[usize::from(second)])
         }
         _ => 0,
     }
 }
 
 // What the registers of a thread hold once it has run its instructions at the first `end` places.
-fn registers_at(places: &[Placed], thread: u8, end: usize) -> [u8; REGISTERS]
-    ensures { (length result ≡ 256) × ((k : ℕ) → k < 256 → slice_index result k ≡ held places.now thread end k) }
+fn registers_at(places: &[Placed], thread: u8, end: usize) -> [u8; NUMBERS]
+    requires { end ≤ length places.now }
+    ensures { (length result ≡ NUMBERS) × ((k : ℕ) → k < NUMBERS → slice_index result k ≡ held places.now thread end k) }
 {
-    let mut registers = [0; REGISTERS];
-    for place in 0..end {
-        let placed = place_at(places, place);
-        if placed.thread == thread {
-            if let Some(target) = placed.instruction.target() {
-                registers[target as usize] = result_of(placed, &registers);
-            }
+    let mut registers = [0; NUMBERS];
+    for placed in &places[..end] {
+        if placed.thread == thread
+            && let Some(target) = placed.instruction.target()
+        {
+            registers[usize::from(target)] = result_of(*placed, &registers);
         }
     }
     registers
@@ -45,15 +45,16 @@ fn registers_at(places: &[Placed], thread: u8, end: usize) -> [u8; REGISTERS]
 pub(crate) fn value_at(places: &[Placed], place: usize) -> Option<u8>
     ensures { result ≡ stores places.now place (instruction_at places.now place) }
 {
-    let placed = place_at(places, place);
+    let placed = places.get(place)?;
     match placed.instruction {
-        Instruction::Write { stored, .. } => match stored {
-            Stored::Constant(value) => Some(value),
-            Stored::Register(register) => {
-                let registers = registers_at(places, placed.thread, place);
-                Some(registers[register as usize])
-            }
-        },
+        Instruction::Write {
+            stored: Stored::Constant(value),
+            ..
+        } => Some(value),
+        Instruction::Write {
+            stored: Stored::Register(register),
+            ..
+        } => Some(registers_at(places, placed.thread, place)[usize::from(register)]),
         _ => None,
     }
 }
@@ -62,10 +63,5 @@ pub(crate) fn value_at(places: &[Placed], place: usize) -> Option<u8>
 pub(crate) fn initial_at(initial: &[u8], location: u8) -> u8
     ensures { result ≡ slice_index initial.now location }
 {
-    let location = location as usize;
-    if location < initial.len() {
-        initial[location]
-    } else {
-        0
-    }
+    initial.get(usize::from(location)).copied().unwrap_or(0)
 }

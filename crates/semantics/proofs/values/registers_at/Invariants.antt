@@ -3,7 +3,7 @@ use Rattle.std.proofs.Common.{◌≡◌, ℕ, ◌<◌, length, get_or}
 use Rattle.semantics.specs.Values.{held}
 use Rattle.semantics.proofs.values.registers_at.Given as goal
 
-abbrev pub invariant-loop-place : goal.invariant-loop-place
-invariant-loop-place l =
+abbrev pub invariant-loop-placed : goal.invariant-loop-placed
+invariant-loop-placed l =
     (length l.registers ≡ 256)
-    × ((k : ℕ) → k < 256 → get_or l.registers k 0 ≡ held l.places l.thread l.place k)
+    × ((k : ℕ) → k < 256 → get_or l.registers k 0 ≡ held l.places l.thread l.placed-index k)
