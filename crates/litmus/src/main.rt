@@ -36,6 +36,7 @@ MODEL is one of
   both NAME NAME               what both keep
 ";
 
+// A function, since `Option` can have no `Display` of ours.
 fn symbol(cell: Option<Cell>) -> char
     ensures { result ≡ shown cell }
 {
@@ -84,6 +85,7 @@ const EXAMPLES: [&str; 12] = [
     "12. W a 1 | W b 1 | a=1, b=0 | b=1, a=0",
 ];
 
+// A function, since `bool` has another `Display`.
 fn ruling(allowed: bool) -> char
     ensures { result ≡ (if allowed then 65 else 70) }
 {

@@ -109,6 +109,7 @@ impl Named {
         [Named::Sc, Named::Ibm370, Named::Tso, Named::Rmo]
     }
 
+    // A text that needs no memory, where `Display` would write one.
     pub fn name(self) -> &'static str
         ensures { result.now ≡ name_of self }
     {

@@ -28,7 +28,7 @@ impl Kind {
         ]
     }
 
-    // The row and the column of this kind in a table.
+    // The row and the column of this kind in a table. By its name, since `usize::from` would not say what the number is.
     pub fn index(self) -> usize
         ensures { result ≡ index self }
     {

@@ -1,4 +1,5 @@
 // Two models made one.
+// Two types: one over a way to join would need a trait for it, two implementations of that and two more names.
 ghost use Rattle.std.specs.Prelude.{◌&&◌, ◌||◌};
 ghost use Rattle.models.specs.Pairs.{union, intersection};
 ghost use Rattle.std.proofs.Common.{rules};

@@ -26,6 +26,7 @@ pub enum Refusal {
 }
 
 impl Refusal {
+    // The numbers are fixed: people and scripts go by them.
     pub fn number(self) -> Option<u8>
         ensures { result ≡ number_of (told self) }
     {

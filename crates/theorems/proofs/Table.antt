@@ -1,10 +1,10 @@
 -- The answers on examples, computed.
-use Rattle.std.proofs.Common.{◌≡◌, Bool, List, [], ◌∷◌, map, subst}
+use Rattle.std.proofs.Common.{◌≡◌, Bool, List, [], ◌∷◌, map, refl, subst}
 use Rattle.models.specs.Named.{all_named, formula_of}
 use Rattle.models.specs.Trees.{holds}
 use Rattle.models.specs.declared.Named.{Named}
 use Rattle.std.specs.List.{AllByRecursion}
-use Rattle.theorems.specs.Examples.{Example, under, Answers, marks_of, Verdicts}
+use Rattle.theorems.specs.Examples.{Example, under, Answers, marks_of, examples, further_examples, Verdicts}
 use Rattle.theorems.proofs.Bridging.{bridge}
 use Rattle.theorems.proofs.Computed.{dec_kept}
 use Rattle.theorems.proofs.Deciding.{decide, decides}
@@ -32,5 +32,11 @@ all_told (x ∷ xs) e =
     (subst (Answers x all_named) first (told x all_named), all_told xs rest)
 
 -- examples are marked rightly where the marks are what is computed
-pub verdicts : (xs : List Example) (rows : List (List Bool)) → map answers xs ≡ marks_of xs → rows ≡ marks_of xs → Verdicts xs rows
+verdicts : (xs : List Example) (rows : List (List Bool)) → map answers xs ≡ marks_of xs → rows ≡ marks_of xs → Verdicts xs rows
 verdicts xs rows e same = record { marked = same; right = all_told xs e }
+
+pub worked : Verdicts examples (marks_of examples)
+worked = verdicts examples _ refl refl
+
+pub further_worked : Verdicts further_examples (marks_of further_examples)
+further_worked = verdicts further_examples _ refl refl

@@ -1,6 +1,5 @@
 // Worked examples.
-ghost use Rattle.std.specs.Prelude.{◌≡◌};
-ghost use Rattle.theorems.specs.Examples.{Verdicts, marks_of, examples, further_examples};
+ghost use Rattle.theorems.specs.Examples.{Verdicts, examples, further_examples};
 
 // Whether an outcome is allowed under SC, IBM370, TSO and RMO.
 type Ruled = [bool; 4];
@@ -11,8 +10,10 @@ const FORBIDDEN: Ruled = [false, false, false, false];
 
 const ONLY_RMO: Ruled = [false, false, false, true];
 
-fn rows() -> [Ruled; 12]
-    ensures { result ≡ marks_of examples }
+// For each of the twelve worked examples, whether its outcome is allowed under SC, IBM370, TSO and RMO.
+#[tactic(auto, using(crate::proofs::Table::worked))]
+pub fn verdicts() -> [[bool; 4]; 12]
+    ensures { Verdicts examples result }
 {
     [
         [false, true, true, true],
@@ -30,25 +31,14 @@ fn rows() -> [Ruled; 12]
     ]
 }
 
-fn further_rows() -> [Ruled; 11]
-    ensures { result ≡ marks_of further_examples }
+// The same for examples that turn on dependencies, on values and on coherence. Of another length: one function over
+// both lists would have to be handed the same two tables.
+#[tactic(auto, using(crate::proofs::Table::further_worked))]
+pub fn further_verdicts() -> [[bool; 4]; 11]
+    ensures { Verdicts further_examples result }
 {
     [
         ONLY_RMO, FORBIDDEN, ONLY_RMO, FORBIDDEN, FORBIDDEN, ONLY_RMO, ALLOWED, ALLOWED, FORBIDDEN,
         FORBIDDEN, FORBIDDEN,
     ]
-}
-
-// For each of the twelve worked examples, whether its outcome is allowed under SC, IBM370, TSO and RMO.
-pub fn verdicts() -> [[bool; 4]; 12]
-    ensures { Verdicts examples result }
-{
-    rows()
-}
-
-// The same for examples that turn on dependencies, on values and on coherence.
-pub fn further_verdicts() -> [[bool; 4]; 11]
-    ensures { Verdicts further_examples result }
-{
-    further_rows()
 }
