@@ -3,6 +3,7 @@ pub mod Fulfilment
 pub mod Growing
 pub mod Latests
 pub mod Naming
+pub mod Ranging
 pub mod Running
 pub mod Seeing
 pub mod Standing
