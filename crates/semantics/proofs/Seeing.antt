@@ -1,5 +1,5 @@
 -- What a read sees in an order, and what that rests on.
-use Rattle.std.proofs.Common.{◌≡◌, ℕ, ◌<◌, Bool, true, false, not, eqb, ◌⊎◌, List, [], length, get_or, sym, refl, subst, subst₂, ⊎_elim}
+use Rattle.std.proofs.Common.{◌≡◌, ℕ, ◌<◌, Bool, true, false, not, eqb, ◌⊎◌, List, [], length, get_or, Some, sym, refl, subst, subst₂, ⊎_elim}
 use Rattle.std.proofs.lemmas.Bool.{eqb-true, eqb-false}
 use Rattle.models.specs.Tells.{Tells}
 use Rattle.models.specs.declared.Facts.{Facts}
@@ -41,7 +41,7 @@ module _ (ps : List Placed) (o : List ℕ) (each : ListsEach (λ x. x < length p
       (k.latest u h.visible)
 
   -- a read of location l at r that expects v
-  module _ (initial : List ℕ) (r l v : ℕ) (e : access_at ps r ≡ Reading l v) where
+  module _ (initial : List ℕ) (r l v : ℕ) (e : access_at ps r ≡ Some (Reading l v)) where
     valued_visible : {w : ℕ} → Visible (accesses ps) o r l w → Visible (valued ps initial) o r l w
     valued_visible = visible_as ps o [] initial (λ f. false) (λ f. false)
 
@@ -89,7 +89,7 @@ module _ (ps : List Placed) (o : List ℕ) (each : ListsEach (λ x. x < length p
       by_initial false t = λ k. eqb-false _ _ t (initial_is (k.sees l v reads))
 
 -- where nothing is read, nothing is asked
-pub no_read : (ps : List Placed) (initial o : List ℕ) (r : ℕ) → ((l v : ℕ) → access_at ps r ≡ Reading l v → ⊥) → ReadStands ps initial o r
+pub no_read : (ps : List Placed) (initial o : List ℕ) (r : ℕ) → ((l v : ℕ) → access_at ps r ≡ Some (Reading l v) → ⊥) → ReadStands ps initial o r
 no_read ps initial o r f = record {
   sees = λ l v h. absurd (f l v h.1);
   own = λ l v w h. absurd (f l v h.1);

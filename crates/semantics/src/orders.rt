@@ -46,10 +46,7 @@ impl<M: Model> Candidate<'_, M> {
     fn writes_to(&self, w: usize, location: u8) -> bool
         ensures { Tells result (WritesTo (accesses self.now.places.now) location w) }
     {
-        match access_at(self.places, w) {
-            Access::Writing { location: to, .. } => to == location,
-            _ => false,
-        }
+        matches!(access_at(self.places, w), Some(Access::Writing { location: to, .. }) if to == location)
     }
 
     // Whether x and y are writes to one location.
@@ -57,7 +54,7 @@ impl<M: Model> Candidate<'_, M> {
         ensures { Tells result (WritesToOne (accesses self.now.places.now) x y) }
     {
         match access_at(self.places, x) {
-            Access::Writing { location, .. } => self.writes_to(y, location),
+            Some(Access::Writing { location, .. }) => self.writes_to(y, location),
             _ => false,
         }
     }
@@ -108,27 +105,21 @@ impl<M: Model> Candidate<'_, M> {
     }
 
     // Whether w writes this value to the location.
-    fn writes_value(&self, w: usize, location: u8, value: u8) -> bool
+    fn writes(&self, w: usize, location: u8, value: u8) -> bool
         ensures { Tells result (Writes (accesses self.now.places.now) w location value) }
     {
-        match access_at(self.places, w) {
-            Access::Writing {
-                location: to,
-                value: written,
-            } => to == location && written == value,
-            _ => false,
-        }
+        access_at(self.places, w) == Some(Access::Writing { location, value })
     }
 
     // Whether the read at r, if there is one, sees the expected value, and no write that follows it in its thread.
     fn read_stands(&self, r: usize) -> bool
         ensures { Tells result (ReadStands self.now.places.now self.now.initial.now self.now.order.now r) }
     {
-        let Access::Reading { location, value } = access_at(self.places, r) else {
+        let Some(Access::Reading { location, value }) = access_at(self.places, r) else {
             return true;
         };
         match self.latest(r, location) {
-            Some(w) => self.writes_value(w, location, value) && !precedes(self.places, r, w),
+            Some(w) => self.writes(w, location, value) && !precedes(self.places, r, w),
             None => initial_at(self.initial, location) == value,
         }
     }

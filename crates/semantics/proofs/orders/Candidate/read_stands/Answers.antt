@@ -5,23 +5,23 @@ use Rattle.semantics.proofs.Seeing.{by_write, not_by_write, by_initial}
 use Rattle.semantics.proofs.Standing.{each_of}
 use Rattle.semantics.proofs.orders.Candidate.read_stands.Goals as goal
 
-pub returns-then-writes_value : goal.returns-then-writes_value
-returns-then-writes_value g c =
+pub returns-then-writes : goal.returns-then-writes
+returns-then-writes g c =
     let s = c.args.self.now in
-    by_write s.places.now s.order.now (each_of s.lists) s.initial.now c.args.r c.in-Reading.location c.in-Reading.value
-    (sym c.access_at.ensures ∙ c.in-Reading.is)
-    c.in-Some.w c.in-Some.ensures c.if-writes_value.ensures _ c.precedes.ensures
+    by_write s.places.now s.order.now (each_of s.lists) s.initial.now c.args.r c.in-Some-Reading.location c.in-Some-Reading.value
+    (cc)
+    c.in-Some.w c.in-Some.ensures c.if-writes.ensures _ c.precedes.ensures
 
-pub returns-else-writes_value : goal.returns-else-writes_value
-returns-else-writes_value g c =
+pub returns-else-writes : goal.returns-else-writes
+returns-else-writes g c =
     let s = c.args.self.now in
-    not_by_write s.places.now s.order.now (each_of s.lists) s.initial.now c.args.r c.in-Reading.location c.in-Reading.value
-    (sym c.access_at.ensures ∙ c.in-Reading.is)
-    c.in-Some.w c.in-Some.ensures _ c.if-writes_value.false c.writes_value.ensures
+    not_by_write s.places.now s.order.now (each_of s.lists) s.initial.now c.args.r c.in-Some-Reading.location c.in-Some-Reading.value
+    (cc)
+    c.in-Some.w c.in-Some.ensures _ c.if-writes.false c.writes.ensures
 
 pub returns-in-None : goal.returns-in-None
 returns-in-None g c =
     let s = c.args.self.now in
-    by_initial s.places.now s.order.now (each_of s.lists) s.initial.now c.args.r c.in-Reading.location c.in-Reading.value
-    (sym c.access_at.ensures ∙ c.in-Reading.is)
-    c.in-None.ensures _ (ap (λ n. eqb n c.in-Reading.value) (sym c.initial_at.ensures))
+    by_initial s.places.now s.order.now (each_of s.lists) s.initial.now c.args.r c.in-Some-Reading.location c.in-Some-Reading.value
+    (cc)
+    c.in-None.ensures _ (ap (λ n. eqb n c.in-Some-Reading.value) (sym c.initial_at.ensures))
