@@ -1,5 +1,5 @@
 // Whether an order of all instructions fulfils an outcome.
-ghost use Rattle.std.specs.Prelude.{◌≡◌, ℕ, ◌<◌, length, MatchOption};
+ghost use Rattle.std.specs.Prelude.{ℕ, ◌<◌, length, MatchOption};
 ghost use Rattle.models.specs.Tells.{Tells};
 ghost use Rattle.semantics.specs.Events.{Writes, WritesTo, events_of};
 ghost use Rattle.semantics.specs.Lists.{Before, ListsEach};
@@ -9,7 +9,7 @@ ghost use Rattle.semantics.specs.Program.{Complete};
 
 use crate::access::{Access, access_at};
 use crate::pair_facts::{facts_of, precedes};
-use crate::placed::{Placed, place_at};
+use crate::placed::Placed;
 use crate::values::initial_at;
 use models::{Kind, Model};
 
@@ -46,17 +46,20 @@ impl<M: Model> Candidate<'_, M> {
     fn writes_to(&self, w: usize, location: u8) -> bool
         ensures { Tells result (WritesTo (accesses self.now.places.now) location w) }
     {
-        matches!(access_at(self.places, w), Some(Access::Writing { location: to, .. }) if to == location)
+        matches!(
+            access_at(self.places, w),
+            Some(Access::Writing { location: to, .. }) if to == location
+        )
     }
 
     // Whether x and y are writes to one location.
     fn one_location(&self, x: usize, y: usize) -> bool
         ensures { Tells result (WritesToOne (accesses self.now.places.now) x y) }
     {
-        match access_at(self.places, x) {
-            Some(Access::Writing { location, .. }) => self.writes_to(y, location),
-            _ => false,
-        }
+        matches!(
+            access_at(self.places, x),
+            Some(Access::Writing { location, .. }) if self.writes_to(y, location)
+        )
     }
 
     // Whether x must stand before y: the model keeps the pair, or both are writes to one location.
