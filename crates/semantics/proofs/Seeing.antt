@@ -1,10 +1,10 @@
 -- What a read sees in an order, and what that rests on.
-use Rattle.std.proofs.Common.{◌≡◌, ℕ, ◌<◌, Bool, true, false, not, eqb, ◌⊎◌, List, [], length, get_or, Some, sym, refl, subst, subst₂, ⊎_elim}
+use Rattle.std.proofs.Common.{◌≡◌, ℕ, ◌<◌, Bool, true, false, not, eqb, List, [], length, get_or, Some, sym, refl, subst, subst₂, ⊎_elim}
 use Rattle.std.proofs.lemmas.Bool.{eqb-true, eqb-false}
 use Rattle.models.specs.Tells.{Tells}
 use Rattle.models.specs.declared.Facts.{Facts}
 use Rattle.semantics.specs.Events.{events_of, access_at, Reads, Writes}
-use Rattle.semantics.specs.Lists.{Before, ListsEach}
+use Rattle.semantics.specs.Lists.{ListsEach}
 use Rattle.semantics.specs.Orders.{Visible, Latest, Sees, written, untouched}
 use Rattle.semantics.specs.Parts.{accesses, valued, ReadStands}
 use Rattle.semantics.specs.Program.{Precedes}

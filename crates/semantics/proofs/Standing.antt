@@ -3,12 +3,12 @@ use Rattle.std.proofs.Common.{◌≡◌, ℕ, zero, suc, ◌+◌, ◌-◌, ◌<�
 use native.Mathlib.Decide.{ℕ_discrete, map_dec}
 use Rattle.std.proofs.lemmas.Bool.{cases_order, eqb-true, eqb-false}
 use Rattle.std.proofs.lemmas.List.{get_or-drop, length-drop}
-use Rattle.models.specs.Tells.{Tells}
-use Rattle.models.proofs.Telling.{told_again}
-use Rattle.std.specs.List.{IsAnyAnswer}
-use Rattle.std.proofs.Math.Seq.{take-length}
 use Rattle.std.proofs.Math.Bridge.{le_prop}
 use Rattle.std.proofs.Math.Logic.{∥∥₁_elim}
+use Rattle.std.proofs.Math.Seq.{take-length}
+use Rattle.std.specs.List.{IsAnyAnswer}
+use Rattle.models.specs.Tells.{Tells}
+use Rattle.models.proofs.Telling.{told_again}
 use Rattle.semantics.specs.Lists.{Listed, Before, ListsEach}
 
 -- x stands in the list, element by element

@@ -1,5 +1,5 @@
 -- The conditions on an order, part by part, as the functions behind `fulfils` tell them; together they are `Fulfils`.
-use Rattle.std.specs.Prelude.{◌≡◌, ℕ, Bool, false, ◌⊎◌, List, []}
+use Rattle.std.specs.Prelude.{ℕ, Bool, false, ◌⊎◌, List, []}
 use Rattle.models.specs.declared.Facts.{Facts}
 use Rattle.semantics.specs.Events.{Events, ProgramOrder, Reads, WritesTo, KeptBy, events_of}
 use Rattle.semantics.specs.Lists.{Before}

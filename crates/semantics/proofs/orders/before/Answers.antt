@@ -1,8 +1,6 @@
-use Rattle.std.proofs.Common.{◌≡◌, ◌+◌, drop, rules, arith}
+use Rattle.std.proofs.Common.{◌≡◌, rules, arith}
 use borrow.Author.Tests.{tests}
 use Rattle.std.proofs.lemmas.Iterator.{IsFirst-from_position, YieldsList-from_slice}
-use Rattle.models.specs.Tells.{Tells}
-use Rattle.semantics.specs.Lists.{Listed}
 use Rattle.semantics.proofs.Standing.{told_before, told_contains}
 use Rattle.semantics.proofs.orders.before.Goals as goal
 

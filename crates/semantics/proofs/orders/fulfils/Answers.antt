@@ -1,5 +1,3 @@
-use Rattle.std.proofs.Common.{◌≡◌, ℕ, ◌<◌, Bool, length, sym, subst}
-use Rattle.models.specs.Tells.{Tells}
 use Rattle.models.proofs.Telling.{told_again}
 use Rattle.semantics.proofs.Fulfilment.{fulfilled, pairs_of, reads_of}
 use Rattle.semantics.proofs.orders.fulfils.Goals as goal

@@ -1,6 +1,4 @@
-use Rattle.std.proofs.Common.{Bool, eqb, sym, ap, ◌∙◌, subst}
-use Rattle.models.specs.Tells.{Tells}
-use Rattle.semantics.specs.Parts.{ReadStands}
+use Rattle.std.proofs.Common.{eqb, sym, ap}
 use Rattle.semantics.proofs.Seeing.{by_write, not_by_write, by_initial}
 use Rattle.semantics.proofs.Standing.{each_of}
 use Rattle.semantics.proofs.orders.Candidate.read_stands.Goals as goal
