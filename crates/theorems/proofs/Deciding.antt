@@ -21,9 +21,9 @@ writes_to l (Some (Writing m u)) = eqb m l
 writes_to l None = false
 
 tested_writes_to : (l : ℕ) (a : Option Access) → Tested (writes_to l a) ((v : ℕ) × (a ≡ Some (Writing l v)))
-tested_writes_to l (Some (Reading m u)) = tested_never (λ h. let d = h.1 in let z : ◌≡◌ {A = ℕ} 0 1 = cc in omega arith)
+tested_writes_to l (Some (Reading m u)) = tested_never (λ h. let d = h.1 in cc)
 tested_writes_to l (Some (Writing m u)) = tested_again (λ e. (u, cc)) (λ h. let d = h.1 in cc) (tested_equal m l)
-tested_writes_to l None = tested_never (λ h. let d = h.1 in let z : ◌≡◌ {A = ℕ} 0 1 = cc in omega arith)
+tested_writes_to l None = tested_never (λ h. let d = h.1 in cc)
 
 -- whether it writes v to location l
 abbrev stores : ℕ → ℕ → Option Access → Bool
@@ -32,10 +32,10 @@ stores l v (Some (Writing m u)) = eqb m l && eqb u v
 stores l v None = false
 
 tested_stores : (l v : ℕ) (a : Option Access) → Tested (stores l v a) (a ≡ Some (Writing l v))
-tested_stores l v (Some (Reading m u)) = tested_never (λ e. let z : ◌≡◌ {A = ℕ} 0 1 = cc in omega arith)
+tested_stores l v (Some (Reading m u)) = tested_never (λ e. cc)
 tested_stores l v (Some (Writing m u)) =
     tested_again (λ h. let d = h.0 in let e = h.1 in cc) (λ e. (cc, cc)) (tested_both (tested_equal m l) (tested_equal u v))
-tested_stores l v None = tested_never (λ e. let z : ◌≡◌ {A = ℕ} 0 1 = cc in omega arith)
+tested_stores l v None = tested_never (λ e. cc)
 
 -- both write to one location
 abbrev SameTarget : Option Access → Option Access → Type 0
@@ -47,10 +47,10 @@ same_target (Some (Writing m u)) b = writes_to m b
 same_target None b = false
 
 tested_same_target : (a b : Option Access) → Tested (same_target a b) (SameTarget a b)
-tested_same_target (Some (Reading m u)) b = tested_never (λ h. let d = h.1.1 in let z : ◌≡◌ {A = ℕ} 0 1 = cc in omega arith)
+tested_same_target (Some (Reading m u)) b = tested_never (λ h. let d = h.1.1 in cc)
 tested_same_target (Some (Writing m u)) b =
     tested_again (λ h. (m, (u, refl), h)) (λ h. let d = h.1.1 in let e = h.2.1 in (h.2.0, cc)) (tested_writes_to m b)
-tested_same_target None b = tested_never (λ h. let d = h.1.1 in let z : ◌≡◌ {A = ℕ} 0 1 = cc in omega arith)
+tested_same_target None b = tested_never (λ h. let d = h.1.1 in cc)
 
 abbrev earlier : Events → ℕ → ℕ → Bool
 earlier e x y = in_thread e.size e.thread x y
@@ -137,8 +137,8 @@ module _ (e : Events) (o : List ℕ) where
       (λ h. h m u refl)
       (tested_both (tested_sees r m u)
       (tested_all (λ w. tested_not (tested_both (tested_earlier e r w) (tested_latest r m w))) e.size))
-  tested_right r (Some (Writing m u)) = record { tells = λ l v d. let z : ◌≡◌ {A = ℕ} 0 1 = cc in absurd (omega arith) }
-  tested_right r None = record { tells = λ l v d. let z : ◌≡◌ {A = ℕ} 0 1 = cc in absurd (omega arith) }
+  tested_right r (Some (Writing m u)) = record { tells = λ l v d. absurd (cc) }
+  tested_right r None = record { tells = λ l v d. absurd (cc) }
 
 module _ (e : Events) (kept : ℕ → ℕ → Bool) where
   -- whether x must stand before y

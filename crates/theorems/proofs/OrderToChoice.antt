@@ -92,7 +92,7 @@ module _ (e : Events) (o : List ℕ) (fulfils : Fulfils e o) where
       subst₂ (λ m n. Seen e o r m n (source_of e o (fulfils.reads r k u (h, is)))) place value (seen e o (fulfils.reads r k u (h, is)))
   pick_seen r l v reads (Some (Reading k u)) is (no f) = absurd (f reads.0)
   pick_seen r l v reads (Some (Writing k u)) is d = absurd (reads_or_writes e reads (reads.0, is))
-  pick_seen r l v reads None is d = let f = reads.1 in let z : ◌≡◌ {A = ℕ} 0 1 = cc in absurd (omega arith)
+  pick_seen r l v reads None is d = let f = reads.1 in absurd (cc)
 
   abbrev choice : Choice
   choice = record {
