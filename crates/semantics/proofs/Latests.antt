@@ -1,14 +1,38 @@
--- The latest of the visible writes, found one place after another.
-use Rattle.std.proofs.Common.{◌≡◌, ℕ, ◌<◌, ◌⊎◌, List, Option, MatchOption}
+-- The latest of the visible writes, looked for from the end of the order.
+use Rattle.std.proofs.Common.{◌≡◌, ℕ, ◌-◌, ◌<◌, List, length, get_or, reverse, Some, None, Option, MatchOption, option_map, sym, ap, ◌∙◌, subst, inl, inr, ⊎_elim, arith}
+use Rattle.std.proofs.lemmas.Bool.{cases_order}
+use Rattle.std.proofs.lemmas.List.{get_or-reverse, length-reverse}
+use Rattle.std.specs.List.{AllWithin, HoldsAt}
 use Rattle.semantics.specs.Events.{Events}
-use Rattle.semantics.specs.Lists.{Before}
-use Rattle.semantics.specs.Orders.{Visible}
+use Rattle.semantics.specs.Lists.{Listed}
+use Rattle.semantics.specs.Orders.{Visible, Latest}
 
--- of the visible writes below n it is u, if there are any
-pub record IsLatestBelow (e : Events) (o : List ℕ) (r l n u : ℕ) : Type 0 where
-  pub below : u < n
-  pub visible : Visible e o r l u
-  pub latest : (k : ℕ) → k < n → Visible e o r l k → (k ≡ u) ⊎ Before o k u
+module _ (e : Events) (o : List ℕ) (r l : ℕ) (listed : (w : ℕ) → Visible e o r l w → Listed o w) where
+  abbrev Unseen : ℕ → Type 0
+  Unseen w = Visible e o r l w → ⊥
 
-abbrev pub LatestBelow : Events → List ℕ → ℕ → ℕ → ℕ → Option ℕ → Type 0
-LatestBelow e o r l n found = MatchOption found ((k : ℕ) → k < n → Visible e o r l k → ⊥) (IsLatestBelow e o r l n)
+  -- what stands at j in the order, from its end
+  from_end : (j : ℕ) → j < length o → get_or (reverse o) (length o - 1 - j) 0 ≡ get_or o j 0
+  from_end j under =
+      let back : length o - 1 - (length o - 1 - j) ≡ j = omega arith in
+      get_or-reverse o (length o - 1 - j) 0 (omega arith) ∙ ap (λ k. get_or o k 0) back
+
+  -- the first that is visible from the end
+  pub latest_found : {A : Type 0} (v : A → ℕ) (found : Option A) → MatchOption found (AllWithin Unseen (reverse o) 0 (length (reverse o))) (λ x. Visible e o r l (v x) × (i : ℕ) × (i < length (reverse o)) × HoldsAt (λ y. y ≡ v x) (reverse o) i × AllWithin Unseen (reverse o) 0 i) → MatchOption (option_map v found) ((w : ℕ) → Unseen w) (Latest e o r l)
+  latest_found v None none = λ w seen.
+      let (j, under, is) = listed w seen in
+      subst Unseen (from_end j under ∙ is) (none (length o - 1 - j) 0 (omega arith) (omega (arith, length-reverse o))) seen
+  latest_found v (Some x) (seen, i, under, at, none) =
+      let within : i < length o = omega (arith, length-reverse o) in
+      let last : get_or o (length o - 1 - i) 0 ≡ v x = sym (get_or-reverse o i 0 within) ∙ at 0 in
+      record {
+        visible = seen;
+        latest = λ u shown.
+            let (j, here, is) = listed u shown in
+            ⊎_elim
+            (λ same. inl (sym is ∙ ap (λ k. get_or o k 0) same ∙ last))
+            (⊎_elim
+            (λ less. inr (j, length o - 1 - i, less, omega arith, is, last))
+            (λ more. absurd (subst Unseen (from_end j here ∙ is) (none (length o - 1 - j) 0 (omega arith) (omega arith)) shown)))
+            (cases_order j (length o - 1 - i));
+      }

@@ -1,18 +1,18 @@
 -- What a read sees in an order, and what that rests on.
-use Rattle.std.proofs.Common.{◌≡◌, ℕ, ◌+◌, ◌<◌, Bool, true, false, eqb, ◌⊎◌, List, [], length, get_or, Some, None, Option, sym, refl, subst, subst₂, inl, inr, ⊎_elim, arith, below_more}
+use Rattle.std.proofs.Common.{◌≡◌, ℕ, ◌<◌, Bool, true, false, not, eqb, List, [], length, get_or, Some, sym, refl, subst, subst₂, ⊎_elim}
 use Rattle.std.proofs.lemmas.Bool.{eqb-true, eqb-false}
 use Rattle.models.specs.Tells.{Tells}
 use Rattle.models.specs.declared.Facts.{Facts}
 use Rattle.semantics.specs.Events.{events_of, access_at, Reads, Writes}
-use Rattle.semantics.specs.Lists.{Before, ListsEach}
+use Rattle.semantics.specs.Lists.{ListsEach}
 use Rattle.semantics.specs.Orders.{Visible, Latest, Sees, written, untouched}
-use Rattle.semantics.specs.Parts.{accesses, LaterOf, valued, ReadStands}
+use Rattle.semantics.specs.Parts.{accesses, valued, ReadStands}
 use Rattle.semantics.specs.Program.{Precedes}
 use Rattle.semantics.specs.declared.access.Access.TheVariants.{Reading}
 use Rattle.semantics.specs.declared.placed.Placed.{Placed}
 use Rattle.semantics.proofs.Accessing.{reading}
-use Rattle.semantics.proofs.Latests.{LatestBelow}
-use Rattle.semantics.proofs.Standing.{before_then, not_both_ways, either_way}
+use Rattle.semantics.proofs.Ranging.{told_of_none}
+use Rattle.semantics.proofs.Standing.{not_both_ways}
 
 -- neither the initial values nor the model have a part in what is visible, or the latest
 module _ (ps : List Placed) (o : List ℕ) (i j : List ℕ) (keeps more : Facts → Bool) where
@@ -33,37 +33,6 @@ sees_as ps o i keeps more (untouched f) = untouched (λ w h. f w (visible_as ps 
 
 -- in an order that lists each place once
 module _ (ps : List Placed) (o : List ℕ) (each : ListsEach (λ x. x < length ps) o) where
-  -- a write that is visible, one place further on
-  pub latest_more : (r l n : ℕ) (found : Option ℕ) (w : ℕ) → n < length ps → LatestBelow (accesses ps) o r l n found → Visible (accesses ps) o r l n → LaterOf o found n w → LatestBelow (accesses ps) o r l (n + 1) (Some w)
-  latest_more r l n None w here none seen later = record {
-    below = omega arith;
-    visible = subst (Visible (accesses ps) o r l) (sym later) seen;
-    latest = below_more _ _ (λ k h s. absurd (none k h s)) (λ s. inl (sym later));
-  }
-  latest_more r l n (Some u) w here some seen (inl a) = record {
-    below = omega (arith, some.below);
-    visible = subst (Visible (accesses ps) o r l) (sym a.0) some.visible;
-    latest = subst (λ (x : ℕ). (k : ℕ) → k < n + 1 → Visible (accesses ps) o r l k → (k ≡ x) ⊎ Before o k x) (sym a.0) (below_more _ _ some.latest (λ s. inr a.1));
-  }
-  latest_more r l n (Some u) w here some seen (inr b) =
-      let under : u < n = some.below in
-      let apart : u ≡ n → ⊥ = λ e. omega arith in
-      let ahead : Before o u n = ⊎_elim (λ h. h) (λ h. absurd (b.1 h)) (either_way o u n (each.every u (omega arith)) (each.every n here) apart) in
-      record {
-        below = omega arith;
-        visible = subst (Visible (accesses ps) o r l) (sym b.0) seen;
-        latest = subst (λ (x : ℕ). (k : ℕ) → k < n + 1 → Visible (accesses ps) o r l k → (k ≡ x) ⊎ Before o k x) (sym b.0) (below_more _ _ (λ k h s. ⊎_elim (λ e. inr (subst (λ (x : ℕ). Before o x n) (sym e) ahead)) (λ earlier. inr (before_then o each.once k u n earlier ahead)) (some.latest k h s)) (λ s. inl refl));
-      }
-
-  -- one that is not
-  pub latest_same : (r l n : ℕ) (found : Option ℕ) → LatestBelow (accesses ps) o r l n found → (Visible (accesses ps) o r l n → ⊥) → LatestBelow (accesses ps) o r l (n + 1) found
-  latest_same r l n None none unseen = below_more _ _ none unseen
-  latest_same r l n (Some u) some unseen = record {
-    below = omega (arith, some.below);
-    visible = some.visible;
-    latest = below_more _ _ some.latest (λ s. absurd (unseen s));
-  }
-
   one_latest : {r l u w : ℕ} → Latest (accesses ps) o r l u → Latest (accesses ps) o r l w → u ≡ w
   one_latest {u = u} {w = w} h k =
       ⊎_elim
@@ -72,7 +41,7 @@ module _ (ps : List Placed) (o : List ℕ) (each : ListsEach (λ x. x < length p
       (k.latest u h.visible)
 
   -- a read of location l at r that expects v
-  module _ (initial : List ℕ) (r l v : ℕ) (e : access_at ps r ≡ Reading l v) where
+  module _ (initial : List ℕ) (r l v : ℕ) (e : access_at ps r ≡ Some (Reading l v)) where
     valued_visible : {w : ℕ} → Visible (accesses ps) o r l w → Visible (valued ps initial) o r l w
     valued_visible = visible_as ps o [] initial (λ f. false) (λ f. false)
 
@@ -100,14 +69,14 @@ module _ (ps : List Placed) (o : List ℕ) (each : ListsEach (λ x. x < length p
       seen_is {u = u} (written h k) = subst (λ (x : ℕ). Writes (accesses ps) x l u) (one_latest (latest_as ps o initial [] (λ f. false) (λ f. false) h) latest) k
       seen_is (untouched f) = absurd (f w (valued_visible latest.visible))
 
-      pub by_write : Writes (accesses ps) w l v → (b : Bool) → Tells b (Precedes ps r w → ⊥) → Tells b (ReadStands ps initial o r)
-      by_write h true apart =
+      pub by_write : Writes (accesses ps) w l v → (b : Bool) → Tells b (Precedes ps r w) → Tells (not b) (ReadStands ps initial o r)
+      by_write h true follows = λ k. k.own l v w reads latest follows
+      by_write h false apart =
           stands (written (latest_as ps o [] initial (λ f. false) (λ f. false) latest) h)
           (λ u k. subst (λ (x : ℕ). Precedes ps r x → ⊥) (one_latest latest k) apart)
-      by_write h false follows = λ k. follows (k.own l v w reads latest)
 
-      pub not_by_write : (Writes (accesses ps) w l v → ⊥) → ReadStands ps initial o r → ⊥
-      not_by_write f k = f (seen_is (k.sees l v reads))
+      pub not_by_write : (b : Bool) → b ≡ false → Tells b (Writes (accesses ps) w l v) → Tells b (ReadStands ps initial o r)
+      not_by_write b e t = told_of_none b _ _ e (λ k. seen_is (k.sees l v reads)) t
 
     -- there is none
     module _ (none : (w : ℕ) → Visible (accesses ps) o r l w → ⊥) where
@@ -120,7 +89,7 @@ module _ (ps : List Placed) (o : List ℕ) (each : ListsEach (λ x. x < length p
       by_initial false t = λ k. eqb-false _ _ t (initial_is (k.sees l v reads))
 
 -- where nothing is read, nothing is asked
-pub no_read : (ps : List Placed) (initial o : List ℕ) (r : ℕ) → ((l v : ℕ) → access_at ps r ≡ Reading l v → ⊥) → ReadStands ps initial o r
+pub no_read : (ps : List Placed) (initial o : List ℕ) (r : ℕ) → ((l v : ℕ) → access_at ps r ≡ Some (Reading l v) → ⊥) → ReadStands ps initial o r
 no_read ps initial o r f = record {
   sees = λ l v h. absurd (f l v h.1);
   own = λ l v w h. absurd (f l v h.1);

@@ -1,8 +1,15 @@
 -- What stands in a list of places, and in which order: the laws, and decisions.
-use Rattle.std.proofs.Common.{◌≡◌, ℕ, zero, suc, ◌<◌, ◌⊎◌, List, [], ◌∷◌, length, get_or, sym, refl, ◌∙◌, inl, inr, ⊎_elim, arith}
+use Rattle.std.proofs.Common.{◌≡◌, ℕ, zero, suc, ◌+◌, ◌-◌, ◌<◌, Bool, true, false, eqb, ◌⊎◌, List, [], ◌∷◌, length, get_or, take, drop, sym, refl, ap, ◌∙◌, subst, inl, inr, ⊎_elim, arith}
 use native.Mathlib.Decide.{ℕ_discrete, map_dec}
-use Rattle.std.proofs.lemmas.Bool.{cases_order}
-use Rattle.semantics.specs.Lists.{Listed, Before}
+use Rattle.std.proofs.lemmas.Bool.{cases_order, eqb-true, eqb-false}
+use Rattle.std.proofs.lemmas.List.{get_or-drop, length-drop}
+use Rattle.std.proofs.Math.Bridge.{le_prop}
+use Rattle.std.proofs.Math.Logic.{∥∥₁_elim}
+use Rattle.std.proofs.Math.Seq.{take-length}
+use Rattle.std.specs.List.{IsAnyAnswer}
+use Rattle.models.specs.Tells.{Tells}
+use Rattle.models.proofs.Telling.{told_again}
+use Rattle.semantics.specs.Lists.{Listed, Before, ListsEach}
 
 -- x stands in the list, element by element
 pub data In (x : ℕ) : List ℕ → Type 0 where
@@ -104,3 +111,50 @@ module _ (o : List ℕ) (once : (x : ℕ) → Before o x x → ⊥) where
 
   pub not_both_ways : (x y : ℕ) → Before o x y → Before o y x → ⊥
   not_both_ways x y there_y back = once x (before_then x y x there_y back)
+
+pub told_contains : (o : List ℕ) (x : ℕ) (r : Bool) → IsAnyAnswer (λ y b. eqb y x ≡ b) o r → Tells r (Listed o x)
+told_contains o x true h = (h.0, h.1, eqb-true _ x (h.2 0))
+told_contains o x false h = λ (i, under, e). let unequal = h i 0 (omega arith) under in eqb-false _ x unequal e
+
+-- y stands after x if it stands after the first x
+pub told_before : (o : List ℕ) (x y first : ℕ) (r : Bool) → first < length o → get_or o first 0 ≡ x → ((k : ℕ) → k < first → get_or o k 0 ≡ x → ⊥) → Tells r (Listed (take (length o - (first + 1)) (drop (first + 1) o)) y) → Tells r (Before o x y)
+told_before o x y first r under at_first none t =
+    told_again r (Listed rest y) (Before o x y)
+    (λ (j, within, e). (first, first + 1 + j, omega arith, omega (arith, length-drop (first + 1) o), at_first, sym (get_or-drop (first + 1) o j 0) ∙ e))
+    (λ (i, j, less, within, e, f).
+    let not_less : i < first → ⊥ = λ h. none i h e in
+    let back : first + 1 + (j - (first + 1)) ≡ j = omega arith in
+    (j - (first + 1), omega (arith, length-drop (first + 1) o), get_or-drop (first + 1) o (j - (first + 1)) 0 ∙ ap (λ k. get_or o k 0) back ∙ f))
+    (subst (λ (l : List ℕ). Tells r (Listed l y)) whole t)
+  where
+    rest : List ℕ
+    rest = drop (first + 1) o
+
+    whole : take (length o - (first + 1)) rest ≡ rest
+    whole = ap (λ n. take n rest) (sym (length-drop (first + 1) o)) ∙ take-length rest
+
+-- an order whose places are below n lists each if it has each of the first n, and not twice
+pub lists_each : (o : List ℕ) (n : ℕ) → ((k : ℕ) → k < length o → get_or o k 0 < n) → ((x : ℕ) → x < n → Listed o x × (Before o x x → ⊥)) → ListsEach (λ x. x < n) o
+lists_each o n below each = record {
+  every = λ x under. (each x under).0;
+  only = λ x (k, within, e). subst (λ (y : ℕ). y < n) e (below k within);
+  once = λ x (i, j, less, within, e, f). (each x (subst (λ (y : ℕ). y < n) f (below j within))).1 (i, j, less, within, e, f);
+}
+
+pub listed_below : (o : List ℕ) (n : ℕ) → ListsEach (λ x. x < n) o → (k : ℕ) → k < length o → get_or o k 0 < n
+listed_below o n each k within = each.only (get_or o k 0) (k, within, refl)
+
+-- what is merely so of a list can be found out
+pub each_of : {n : ℕ} {o : List ℕ} → ∥ ListsEach (λ x. x < n) o ∥₁ → ListsEach (λ x. x < n) o
+each_of {n = n} {o = o} merely = record {
+  every = λ x under. decided (dec_listed o x) (λ none. ∥∥₁_elim merely ⊥_prop (λ each. none (each.every x under)));
+  only = λ x h. ∥∥₁_elim merely le_prop (λ each. each.only x h);
+  once = λ x twice. ∥∥₁_elim merely ⊥_prop (λ each. each.once x twice);
+}
+  where
+    ⊥_prop : IsProp ⊥
+    ⊥_prop = hlevel
+
+    decided : {P : Type 0} → Dec P → ((P → ⊥) → ⊥) → P
+    decided (yes p) f = p
+    decided (no q) f = absurd (f q)

@@ -1,5 +1,5 @@
 -- The conditions on an order, part by part, as the functions behind `fulfils` tell them; together they are `Fulfils`.
-use Rattle.std.specs.Prelude.{◌≡◌, ℕ, Bool, false, ◌⊎◌, List, [], Some, None, Option}
+use Rattle.std.specs.Prelude.{ℕ, Bool, false, ◌⊎◌, List, []}
 use Rattle.models.specs.declared.Facts.{Facts}
 use Rattle.semantics.specs.Events.{Events, ProgramOrder, Reads, WritesTo, KeptBy, events_of}
 use Rattle.semantics.specs.Lists.{Before}
@@ -32,11 +32,6 @@ StandsAfter keeps ps o y = (x : ℕ) → Stands keeps ps o x y
 
 abbrev pub PairsStand : (Facts → Bool) → List Placed → List ℕ → Type 0
 PairsStand keeps ps o = (y : ℕ) → StandsAfter keeps ps o y
-
--- r is the later in the order of w and what was found before
-abbrev pub LaterOf : List ℕ → Option ℕ → ℕ → ℕ → Type 0
-LaterOf o None w r = r ≡ w
-LaterOf o (Some u) w r = ((r ≡ u) × Before o w u) ⊎ ((r ≡ w) × (Before o w u → ⊥))
 
 -- a read at r sees the expected value, and no write that follows it in its thread
 pub record ReadStands (ps : List Placed) (initial : List ℕ) (o : List ℕ) (r : ℕ) : Type 0 where

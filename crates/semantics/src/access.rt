@@ -6,29 +6,26 @@ use crate::instruction::Instruction;
 use crate::placed::{Placed, place_at};
 use crate::values::value_at;
 
-#[derive(Clone, Copy)]
+#[derive(Clone, Copy, Debug, PartialEq, Eq)]
 pub enum Access {
     // reads the location, and the value is expected
     Reading { location: u8, value: u8 },
     // writes the value to the location
     Writing { location: u8, value: u8 },
-    Neither,
 }
 
-// What the instruction at this place does to memory.
-pub(crate) fn access_at(places: &[Placed], place: usize) -> Access
+// What the instruction at this place does to memory, if anything.
+pub(crate) fn access_at(places: &[Placed], place: usize) -> Option<Access>
     ensures { result ≡ access_at places.now place }
 {
     let placed = place_at(places, place);
     match placed.instruction {
-        Instruction::Read { location, .. } => match placed.expected {
-            Some(value) => Access::Reading { location, value },
-            None => Access::Neither,
-        },
-        Instruction::Write { location, .. } => match value_at(places, place) {
-            Some(value) => Access::Writing { location, value },
-            None => Access::Neither,
-        },
-        _ => Access::Neither,
+        Instruction::Read { location, .. } => placed
+            .expected
+            .map(|value| Access::Reading { location, value }),
+        Instruction::Write { location, .. } => {
+            value_at(places, place).map(|value| Access::Writing { location, value })
+        }
+        _ => None,
     }
 }

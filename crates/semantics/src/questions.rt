@@ -23,8 +23,8 @@ impl Test {
         value_at(self.places(), place)
     }
 
-    // What the instruction at this place does to memory.
-    pub fn access(&self, place: usize) -> Access
+    // What the instruction at this place does to memory, if anything.
+    pub fn access(&self, place: usize) -> Option<Access>
         ensures { result ≡ access_at (places_of self.now) place }
     {
         access_at(self.places(), place)

@@ -132,15 +132,6 @@ fn values(rt: HostRuntime) {
     assert_eq!(rt; test.value(8), None);
 }
 
-// The location and the value of an access, and whether it is a write.
-fn access(test: &Test, place: usize) -> Option<(bool, u8, u8)> {
-    match test.access(place) {
-        Access::Reading { location, value } => Some((false, location, value)),
-        Access::Writing { location, value } => Some((true, location, value)),
-        Access::Neither => None,
-    }
-}
-
 #[test]
 fn accesses(rt: HostRuntime) {
     let test = test(&[
@@ -149,10 +140,22 @@ fn accesses(rt: HostRuntime) {
         (0, write(3, 6), None),
         (0, Instruction::Fence, None),
     ]);
-    assert_eq!(rt; access(&test, 0), Some((false, 2, 5)));
-    assert_eq!(rt; access(&test, 1), None);
-    assert_eq!(rt; access(&test, 2), Some((true, 3, 6)));
-    assert_eq!(rt; access(&test, 3), None);
+    assert_eq!(rt;
+        test.access(0),
+        Some(Access::Reading {
+            location: 2,
+            value: 5
+        })
+    );
+    assert_eq!(rt; test.access(1), None);
+    assert_eq!(rt;
+        test.access(2),
+        Some(Access::Writing {
+            location: 3,
+            value: 6
+        })
+    );
+    assert_eq!(rt; test.access(3), None);
     assert_eq!(rt; (PLACES, LOCATIONS), (32, 4));
 }
 

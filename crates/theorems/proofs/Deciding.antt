@@ -1,10 +1,10 @@
 -- Whether some order fulfils an outcome: a search for one, and that it tells.
-use Rattle.std.proofs.Common.{◌≡◌, ℕ, zero, suc, ◌<◌, Bool, true, false, not, ◌&&◌, ◌||◌, eqb, ltb, ◌⊎◌, List, [], ◌∷◌, ◌++◌, length, get_or, sym, refl, ap, ◌∙◌, subst, subst₂, inl, inr, arith}
+use Rattle.std.proofs.Common.{◌≡◌, ℕ, zero, suc, ◌<◌, Bool, true, false, not, ◌&&◌, ◌||◌, eqb, ltb, ◌⊎◌, List, [], ◌∷◌, ◌++◌, length, get_or, Some, None, Option, sym, refl, ap, ◌∙◌, subst, subst₂, inl, inr, arith}
 use Rattle.std.proofs.lemmas.List.{append-nil, append_assoc, get_or_append_left, get_or_at, length-append, nil_from_length}
 use Rattle.std.proofs.lemmas.Bool.{cases_order}
 use Rattle.models.specs.declared.Facts.{Facts}
 use Rattle.semantics.specs.declared.Access.{Access}
-use Rattle.semantics.specs.declared.Access.TheVariants.{Reading, Writing, Neither}
+use Rattle.semantics.specs.declared.Access.TheVariants.{Reading, Writing}
 use Rattle.semantics.specs.Events.{Events, ProgramOrder, events_of}
 use Rattle.semantics.specs.Lists.{Listed, Before}
 use Rattle.semantics.specs.Orders.{Visible, Latest, Sees, written, untouched, Fulfils}
@@ -15,42 +15,42 @@ use Rattle.theorems.proofs.Counted.{length_lists}
 use Rattle.theorems.proofs.Tested.{Tested, all_below, any_below, listed, before, tested_again, tested_both, tested_either, tested_not, tested_if, tested_never, tested_equal, tested_below, tested_all, tested_some, tested_listed, tested_before}
 
 -- whether it writes to location l
-abbrev writes_to : ℕ → Access → Bool
-writes_to l (Reading m u) = false
-writes_to l (Writing m u) = eqb m l
-writes_to l Neither = false
+abbrev writes_to : ℕ → Option Access → Bool
+writes_to l (Some (Reading m u)) = false
+writes_to l (Some (Writing m u)) = eqb m l
+writes_to l None = false
 
-tested_writes_to : (l : ℕ) (a : Access) → Tested (writes_to l a) ((v : ℕ) × (a ≡ Writing l v))
-tested_writes_to l (Reading m u) = tested_never (λ h. let d = h.1 in let z : ◌≡◌ {A = ℕ} 0 1 = cc in omega arith)
-tested_writes_to l (Writing m u) = tested_again (λ e. (u, cc)) (λ h. let d = h.1 in cc) (tested_equal m l)
-tested_writes_to l Neither = tested_never (λ h. let d = h.1 in let z : ◌≡◌ {A = ℕ} 0 1 = cc in omega arith)
+tested_writes_to : (l : ℕ) (a : Option Access) → Tested (writes_to l a) ((v : ℕ) × (a ≡ Some (Writing l v)))
+tested_writes_to l (Some (Reading m u)) = tested_never (λ h. let d = h.1 in cc)
+tested_writes_to l (Some (Writing m u)) = tested_again (λ e. (u, cc)) (λ h. let d = h.1 in cc) (tested_equal m l)
+tested_writes_to l None = tested_never (λ h. let d = h.1 in cc)
 
 -- whether it writes v to location l
-abbrev stores : ℕ → ℕ → Access → Bool
-stores l v (Reading m u) = false
-stores l v (Writing m u) = eqb m l && eqb u v
-stores l v Neither = false
+abbrev stores : ℕ → ℕ → Option Access → Bool
+stores l v (Some (Reading m u)) = false
+stores l v (Some (Writing m u)) = eqb m l && eqb u v
+stores l v None = false
 
-tested_stores : (l v : ℕ) (a : Access) → Tested (stores l v a) (a ≡ Writing l v)
-tested_stores l v (Reading m u) = tested_never (λ e. let z : ◌≡◌ {A = ℕ} 0 1 = cc in omega arith)
-tested_stores l v (Writing m u) =
+tested_stores : (l v : ℕ) (a : Option Access) → Tested (stores l v a) (a ≡ Some (Writing l v))
+tested_stores l v (Some (Reading m u)) = tested_never (λ e. cc)
+tested_stores l v (Some (Writing m u)) =
     tested_again (λ h. let d = h.0 in let e = h.1 in cc) (λ e. (cc, cc)) (tested_both (tested_equal m l) (tested_equal u v))
-tested_stores l v Neither = tested_never (λ e. let z : ◌≡◌ {A = ℕ} 0 1 = cc in omega arith)
+tested_stores l v None = tested_never (λ e. cc)
 
 -- both write to one location
-abbrev SameTarget : Access → Access → Type 0
-SameTarget a b = (l : ℕ) × ((v : ℕ) × (a ≡ Writing l v)) × ((v : ℕ) × (b ≡ Writing l v))
+abbrev SameTarget : Option Access → Option Access → Type 0
+SameTarget a b = (l : ℕ) × ((v : ℕ) × (a ≡ Some (Writing l v))) × ((v : ℕ) × (b ≡ Some (Writing l v)))
 
-abbrev same_target : Access → Access → Bool
-same_target (Reading m u) b = false
-same_target (Writing m u) b = writes_to m b
-same_target Neither b = false
+abbrev same_target : Option Access → Option Access → Bool
+same_target (Some (Reading m u)) b = false
+same_target (Some (Writing m u)) b = writes_to m b
+same_target None b = false
 
-tested_same_target : (a b : Access) → Tested (same_target a b) (SameTarget a b)
-tested_same_target (Reading m u) b = tested_never (λ h. let d = h.1.1 in let z : ◌≡◌ {A = ℕ} 0 1 = cc in omega arith)
-tested_same_target (Writing m u) b =
+tested_same_target : (a b : Option Access) → Tested (same_target a b) (SameTarget a b)
+tested_same_target (Some (Reading m u)) b = tested_never (λ h. let d = h.1.1 in cc)
+tested_same_target (Some (Writing m u)) b =
     tested_again (λ h. (m, (u, refl), h)) (λ h. let d = h.1.1 in let e = h.2.1 in (h.2.0, cc)) (tested_writes_to m b)
-tested_same_target Neither b = tested_never (λ h. let d = h.1.1 in let z : ◌≡◌ {A = ℕ} 0 1 = cc in omega arith)
+tested_same_target None b = tested_never (λ h. let d = h.1.1 in cc)
 
 abbrev earlier : Events → ℕ → ℕ → Bool
 earlier e x y = in_thread e.size e.thread x y
@@ -101,7 +101,7 @@ module _ (e : Events) (o : List ℕ) where
     -- the two ways to see v
     abbrev Seen : ℕ → Type 0
     Seen v =
-        ((w : ℕ) × (w < e.size) × ((e.access w ≡ Writing l v) × Latest e o r l w))
+        ((w : ℕ) × (w < e.size) × ((e.access w ≡ Some (Writing l v)) × Latest e o r l w))
         ⊎ ((e.initial l ≡ v) × ((w : ℕ) → w < e.size → Visible e o r l w → ⊥))
 
     seen : {v : ℕ} → Sees e o r l v → Seen v
@@ -123,22 +123,22 @@ module _ (e : Events) (o : List ℕ) where
   abbrev Right : ℕ → ℕ → ℕ → Type 0
   Right r l v = Sees e o r l v × ((w : ℕ) → w < e.size → ProgramOrder e r w × Latest e o r l w → ⊥)
 
-  abbrev right : ℕ → Access → Bool
-  right r (Reading l v) =
+  abbrev right : ℕ → Option Access → Bool
+  right r (Some (Reading l v)) =
       let own = all_below e.size (λ w. let last = latest r l w in not (earlier e r w && last)) in
       sees r l v && own
-  right r (Writing l v) = true
-  right r Neither = true
+  right r (Some (Writing l v)) = true
+  right r None = true
 
-  tested_right : (r : ℕ) (a : Access) → Tested (right r a) ((l v : ℕ) → a ≡ Reading l v → Right r l v)
-  tested_right r (Reading m u) =
+  tested_right : (r : ℕ) (a : Option Access) → Tested (right r a) ((l v : ℕ) → a ≡ Some (Reading l v) → Right r l v)
+  tested_right r (Some (Reading m u)) =
       tested_again
       (λ h l v d. let p : m ≡ l = cc in let q : u ≡ v = cc in subst₂ (λ (i j : ℕ). Right r i j) p q h)
       (λ h. h m u refl)
       (tested_both (tested_sees r m u)
       (tested_all (λ w. tested_not (tested_both (tested_earlier e r w) (tested_latest r m w))) e.size))
-  tested_right r (Writing m u) = record { tells = λ l v d. let z : ◌≡◌ {A = ℕ} 0 1 = cc in absurd (omega arith) }
-  tested_right r Neither = record { tells = λ l v d. let z : ◌≡◌ {A = ℕ} 0 1 = cc in absurd (omega arith) }
+  tested_right r (Some (Writing m u)) = record { tells = λ l v d. absurd (cc) }
+  tested_right r None = record { tells = λ l v d. absurd (cc) }
 
 module _ (e : Events) (kept : ℕ → ℕ → Bool) where
   -- whether x must stand before y

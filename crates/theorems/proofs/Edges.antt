@@ -2,7 +2,7 @@
 use Rattle.std.proofs.Common.{◌≡◌, ℕ, ◌<◌, ◌⊎◌, Some, None, Option, sym, refl, subst, inl, inr, arith}
 use native.Mathlib.Decide.{dec_lt, ℕ_discrete, map_dec}
 use Rattle.semantics.specs.declared.Access.{Access}
-use Rattle.semantics.specs.declared.Access.TheVariants.{Reading, Writing, Neither}
+use Rattle.semantics.specs.declared.Access.TheVariants.{Reading, Writing}
 use Rattle.semantics.specs.Events.{Events, ProgramOrder, Reads, Writes, WritesTo}
 use Rattle.semantics.specs.HappensBefore.{Choice, CoherenceBefore, ReadsFrom, ArrangesWrites, Edge, preserved, coherence, external_reads_from, from_read, from_initial_read}
 use Rattle.semantics.specs.Lists.{Before}
@@ -15,7 +15,7 @@ dec_not (no f) = yes f
 
 -- one instruction does not both read and write
 pub reads_or_writes : (e : Events) {x l k v u : ℕ} → Reads e x l v → Writes e x k u → ⊥
-reads_or_writes e (h, read) (i, write) = let z : ◌≡◌ {A = ℕ} 0 1 = cc in omega arith
+reads_or_writes e (h, read) (i, write) = cc
 
 -- it accesses one location
 pub one_location_lem : (e : Events) {x l k v u : ℕ} → Writes e x l v → Writes e x k u → l ≡ k
@@ -32,33 +32,30 @@ dec_earlier e x y =
 abbrev ReadAt : Events → ℕ → Type 0
 ReadAt e x = (l : ℕ) × (v : ℕ) × Reads e x l v
 
-clash : {A : Type 0} → ◌≡◌ {A = ℕ} 0 1 → A
-clash e = absurd (omega arith)
-
 dec_read : (e : Events) (x : ℕ) → Dec (ReadAt e x)
 dec_read e x = from (e.access x) refl (dec_lt x e.size)
   where
-    from : (a : Access) → e.access x ≡ a → Dec (x < e.size) → Dec (ReadAt e x)
-    from (Reading l v) is (yes h) = yes (l, v, (h, is))
-    from (Reading l v) is (no f) = no (λ r. f r.2.0)
-    from (Writing l v) is d = no (λ r. let f = r.2.1 in let z : ◌≡◌ {A = ℕ} 0 1 = cc in clash z)
-    from Neither is d = no (λ r. let f = r.2.1 in let z : ◌≡◌ {A = ℕ} 0 1 = cc in clash z)
+    from : (a : Option Access) → e.access x ≡ a → Dec (x < e.size) → Dec (ReadAt e x)
+    from (Some (Reading l v)) is (yes h) = yes (l, v, (h, is))
+    from (Some (Reading l v)) is (no f) = no (λ r. f r.2.0)
+    from (Some (Writing l v)) is d = no (λ r. let f = r.2.1 in cc)
+    from None is d = no (λ r. let f = r.2.1 in cc)
 
 pub dec_writes_to : (e : Events) (l x : ℕ) → Dec (WritesTo e l x)
 dec_writes_to e l x = from (e.access x) refl (dec_lt x e.size)
   where
-    here : (k v : ℕ) → e.access x ≡ Writing k v → x < e.size → Dec (k ≡ l) → Dec (WritesTo e l x)
+    here : (k v : ℕ) → e.access x ≡ Some (Writing k v) → x < e.size → Dec (k ≡ l) → Dec (WritesTo e l x)
     here k v is h (yes same) = yes (v, (h, cc))
     here k v is h (no other) = no (λ w. other (one_location_lem e {x = x} {v = v} {u = w.0} (h, is) w.1))
 
-    from : (a : Access) → e.access x ≡ a → Dec (x < e.size) → Dec (WritesTo e l x)
-    from (Writing k v) is (yes h) = here k v is h (ℕ_discrete k l)
-    from (Writing k v) is (no f) = no (λ w. f w.1.0)
-    from (Reading k v) is d = no (λ w. let f = w.1.1 in let z : ◌≡◌ {A = ℕ} 0 1 = cc in clash z)
-    from Neither is d = no (λ w. let f = w.1.1 in let z : ◌≡◌ {A = ℕ} 0 1 = cc in clash z)
+    from : (a : Option Access) → e.access x ≡ a → Dec (x < e.size) → Dec (WritesTo e l x)
+    from (Some (Writing k v)) is (yes h) = here k v is h (ℕ_discrete k l)
+    from (Some (Writing k v)) is (no f) = no (λ w. f w.1.0)
+    from (Some (Reading k v)) is d = no (λ w. let f = w.1.1 in cc)
+    from None is d = no (λ w. let f = w.1.1 in cc)
 
 dec_source : (o : Option ℕ) (w : ℕ) → Dec (o ≡ Some w)
-dec_source None w = no (λ f. let z : ◌≡◌ {A = ℕ} 0 1 = cc in clash z)
+dec_source None w = no (λ f. cc)
 dec_source (Some u) w = map_dec (λ f. cc) (λ f. cc) (ℕ_discrete u w)
 
 module _ (e : Events) (c : Choice) (coherent : ArrangesWrites e c) where
@@ -79,11 +76,11 @@ module _ (e : Events) (c : Choice) (coherent : ArrangesWrites e c) where
       here l write (yes b) = yes (l, b)
       here l write (no f) = no (λ b. f (at_location l write b))
 
-      from : (a : Access) → e.access w ≡ a → Dec (w < e.size) → Dec (CoherenceBefore c w u)
-      from (Writing l v) is (yes h) = here l (v, (h, is)) (dec_before (c.arranged l) w u)
-      from (Writing l v) is (no f) = no (λ b. f (later_writes b.0 b.1).0.1.0)
-      from (Reading l v) is d = no (λ b. let f = (later_writes b.0 b.1).0.1.1 in let z : ◌≡◌ {A = ℕ} 0 1 = cc in clash z)
-      from Neither is d = no (λ b. let f = (later_writes b.0 b.1).0.1.1 in let z : ◌≡◌ {A = ℕ} 0 1 = cc in clash z)
+      from : (a : Option Access) → e.access w ≡ a → Dec (w < e.size) → Dec (CoherenceBefore c w u)
+      from (Some (Writing l v)) is (yes h) = here l (v, (h, is)) (dec_before (c.arranged l) w u)
+      from (Some (Writing l v)) is (no f) = no (λ b. f (later_writes b.0 b.1).0.1.0)
+      from (Some (Reading l v)) is d = no (λ b. let f = (later_writes b.0 b.1).0.1.1 in cc)
+      from None is d = no (λ b. let f = (later_writes b.0 b.1).0.1.1 in cc)
 
   -- from a read to each write that follows its writer, or to each write if it has none
   abbrev FromRead : ℕ → Option ℕ → ℕ → Type 0

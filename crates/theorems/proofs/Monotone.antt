@@ -1,5 +1,5 @@
 -- An order that fulfils an outcome still does when less is kept and nothing else changes.
-use Rattle.std.proofs.Common.{◌≡◌, ℕ, zero, suc, ◌<◌, Bool, cond, ◌&&◌, eqb, List, None, sym, refl, ap, ◌∙◌, subst, ap₂, inl, inr, ⊎_elim, arith}
+use Rattle.std.proofs.Common.{◌≡◌, ℕ, zero, suc, ◌<◌, Bool, cond, ◌&&◌, eqb, List, Some, None, sym, refl, ap, ◌∙◌, subst, ap₂, inl, inr, ⊎_elim, arith}
 use mathlib.Core.Path.{fun_ext}
 use Rattle.models.specs.Facts.{Grows, Positive}
 use Rattle.models.specs.declared.Facts.{Facts}
@@ -139,7 +139,7 @@ module _ (ps qs : List Placed) (adds : AddsAddresses ps qs) where
 
   access_same : (x : ℕ) (i : Instruction) → access_of ps x i ≡ access_of qs x i
   access_same x (Read location target address) = ap (read_access location) (adds.expected x)
-  access_same x (Write location stored address) = ap (λ h. Writing location (stored_value stored h)) (value_same x)
+  access_same x (Write location stored address) = ap (λ h. Some (Writing location (stored_value stored h))) (value_same x)
   access_same x Fence = refl
   access_same x (Sum target first second) = refl
   access_same x (Difference target first second) = refl

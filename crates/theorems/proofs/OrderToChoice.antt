@@ -3,7 +3,7 @@
 use Rattle.std.proofs.Common.{◌≡◌, ℕ, ◌<◌, List, [], ◌∷◌, Some, None, Option, sym, refl, subst, subst₂, inl, inr, ⊎_elim, arith}
 use native.Mathlib.Decide.{dec_lt}
 use Rattle.semantics.specs.declared.Access.{Access}
-use Rattle.semantics.specs.declared.Access.TheVariants.{Reading, Writing, Neither}
+use Rattle.semantics.specs.declared.Access.TheVariants.{Reading, Writing}
 use Rattle.semantics.specs.Events.{Events, ProgramOrder, Reads, Writes, WritesTo}
 use Rattle.semantics.specs.HappensBefore.{Choice, Allowed, Edge, preserved, coherence, external_reads_from, from_read, from_initial_read, Path, last, then, ArrangesWrites, ReadsFrom}
 use Rattle.semantics.specs.Lists.{Listed, Before, ListsEach}
@@ -78,21 +78,21 @@ module _ (e : Events) (o : List ℕ) where
 
 module _ (e : Events) (o : List ℕ) (fulfils : Fulfils e o) where
   -- the write that is seen at r, if r reads
-  abbrev pick : (r : ℕ) (a : Access) → e.access r ≡ a → Dec (r < e.size) → Option ℕ
-  pick r (Reading l v) is (yes h) = source_of e o (fulfils.reads r l v (h, is))
-  pick r (Reading l v) is (no f) = None
-  pick r (Writing l v) is d = None
-  pick r Neither is d = None
+  abbrev pick : (r : ℕ) (a : Option Access) → e.access r ≡ a → Dec (r < e.size) → Option ℕ
+  pick r (Some (Reading l v)) is (yes h) = source_of e o (fulfils.reads r l v (h, is))
+  pick r (Some (Reading l v)) is (no f) = None
+  pick r (Some (Writing l v)) is d = None
+  pick r None is d = None
 
-  pick_seen : (r l v : ℕ) → Reads e r l v → (a : Access) (is : e.access r ≡ a) (d : Dec (r < e.size)) → Seen e o r l v (pick r a is d)
-  pick_seen r l v reads (Reading k u) is (yes h) =
+  pick_seen : (r l v : ℕ) → Reads e r l v → (a : Option Access) (is : e.access r ≡ a) (d : Dec (r < e.size)) → Seen e o r l v (pick r a is d)
+  pick_seen r l v reads (Some (Reading k u)) is (yes h) =
       let f = reads.1 in
       let place : k ≡ l = cc in
       let value : u ≡ v = cc in
       subst₂ (λ m n. Seen e o r m n (source_of e o (fulfils.reads r k u (h, is)))) place value (seen e o (fulfils.reads r k u (h, is)))
-  pick_seen r l v reads (Reading k u) is (no f) = absurd (f reads.0)
-  pick_seen r l v reads (Writing k u) is d = absurd (reads_or_writes e reads (reads.0, is))
-  pick_seen r l v reads Neither is d = let f = reads.1 in let z : ◌≡◌ {A = ℕ} 0 1 = cc in absurd (omega arith)
+  pick_seen r l v reads (Some (Reading k u)) is (no f) = absurd (f reads.0)
+  pick_seen r l v reads (Some (Writing k u)) is d = absurd (reads_or_writes e reads (reads.0, is))
+  pick_seen r l v reads None is d = let f = reads.1 in absurd (cc)
 
   abbrev choice : Choice
   choice = record {

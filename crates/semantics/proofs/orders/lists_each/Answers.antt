@@ -1,16 +1,21 @@
-use Rattle.std.proofs.Common.{arith, below_more}
-use Rattle.semantics.proofs.Standing.{listed_first}
+use Rattle.std.proofs.Common.{ℕ, ◌<◌, true, length, get_or, refl, rules}
+use borrow.Author.Tests.{tests}
+use Rattle.models.proofs.Telling.{told_again}
+use Rattle.semantics.specs.Lists.{Listed, Before, ListsEach}
+use Rattle.semantics.proofs.Ranging.{told_each, told_below, told_of_none}
+use Rattle.semantics.proofs.Standing.{lists_each, listed_below}
 use Rattle.semantics.proofs.orders.lists_each.Goals as goal
 
-pub returns-then-not-listed_once : goal.returns-then-not-listed_once
-returns-then-not-listed_once c = λ each. c.if-not-listed_once.ensures (each.every _ c.loop-x-test.true, each.once _)
+pub returns-then-all : goal.returns-then-all
+returns-then-all c =
+    let o = c.args.order.now in
+    told_again c.all-then-all.result ((x : ℕ) → x < c.args.n → Listed o x × (Before o x x → ⊥)) (ListsEach (λ x. x < c.args.n) o)
+    (lists_each o c.args.n (told_each _ _ true (λ x. x < c.args.n) 0 o c.if-all.ensures.ran c.iter.ensures.rest (λ x q k. search (rules, tests)) (λ x q k. search (rules, tests))))
+    (λ each x under. (each.every x under, each.once x))
+    (told_below _ _ c.all-then-all.result (λ x. Listed o x × (Before o x x → ⊥)) c.args.n c.all-then-all.ensures.ran refl (λ x q k. search (rules, tests)) (λ x q k. search (rules, tests)))
 
-pub loop-x-preserved : goal.loop-x-preserved
-loop-x-preserved c = below_more _ _ c.loop-x.invariant c.if-not-listed_once.ensures
-
-pub returns : goal.returns
-returns c = record {
-  every = λ x h. (c.loop-x.invariant x (omega arith)).0;
-  only = c.if-not-all_below.ensures;
-  once = λ x twice. (c.loop-x.invariant x (omega (arith, c.if-not-all_below.ensures x (listed_first _ x x twice)))).1 twice;
-}
+pub returns-else-all : goal.returns-else-all
+returns-else-all c =
+    let o = c.args.order.now in
+    told_of_none c.all.result ((k : ℕ) → k < length o → get_or o k 0 < c.args.n) _ c.if-all.false (listed_below o c.args.n)
+    (told_each _ _ c.all.result (λ x. x < c.args.n) 0 o c.all.ensures.ran c.iter.ensures.rest (λ x q k. search (rules, tests)) (λ x q k. search (rules, tests)))
