@@ -1,5 +1,5 @@
 pub mod ByKind
 pub mod Combinations
 pub mod EachCombination
-pub mod Filling
+pub mod Rows
 pub mod Telling

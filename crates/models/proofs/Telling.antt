@@ -11,10 +11,3 @@ told_both false false P Q p q = λ h. p h.0
 pub told_again : (r : Bool) (P Q : Type 0) → (P → Q) → (Q → P) → Tells r P → Tells r Q
 told_again true P Q to back h = to h
 told_again false P Q to back h = λ q. h (back q)
-
--- what holds at the four pairs of answers holds at all
-pub four : (P : Bool → Bool → Type 0) → P false false → P false true → P true false → P true true → (s d : Bool) → P s d
-four P a b c d false false = a
-four P a b c d false true = b
-four P a b c d true false = c
-four P a b c d true true = d

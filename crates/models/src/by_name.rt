@@ -1,6 +1,6 @@
 // The models that are had by name.
 ghost use Rattle.std.specs.Prelude.{◌≡◌};
-ghost use Rattle.models.specs.Named.{all_named, name_of, formula_of, table_of, Finds, Is};
+ghost use Rattle.models.specs.Named.{all_named, name_of, formula_of, Finds, Is};
 ghost use Rattle.models.specs.Trees.{holds};
 ghost use Rattle.models.specs.Positives;
 
@@ -121,8 +121,10 @@ impl Named {
         }
     }
 
-    fn constant(self) -> Table
-        ensures { result ≡ table_of self }
+    // The model's table, which keeps just what its formula makes true.
+    #[tactic(auto, using(crate::proofs::Combinations::is_named))]
+    pub fn table(self) -> Table
+        ensures { Is self result }
     {
         match self {
             Named::Sc => SC,
@@ -130,13 +132,6 @@ impl Named {
             Named::Tso => TSO,
             Named::Rmo => RMO,
         }
-    }
-
-    // The model's table, which keeps just what its formula makes true.
-    pub fn table(self) -> Table
-        ensures { Is self result }
-    {
-        self.constant()
     }
 }
 

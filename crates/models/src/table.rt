@@ -86,6 +86,7 @@ impl TryFrom<[[u8; KINDS]; KINDS]> for Table {
 
     ghost try_from_gives = { MakesTable };
 
+    #[tactic(auto, using(crate::proofs::Rows::over))]
     fn try_from(numbers: [[u8; KINDS]; KINDS]) -> Result<Table, Refusal> {
         let rows = numbers.try_map(Row::try_from)?;
         Ok(Table { rows })

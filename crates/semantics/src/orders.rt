@@ -8,7 +8,7 @@ ghost use Rattle.semantics.specs.Parts.{accesses, WritesToOne, MustPrecede, Stan
 ghost use Rattle.semantics.specs.Program.{Complete};
 
 use crate::access::{Access, access_at};
-use crate::pair_facts::{facts_of, precedes};
+use crate::pair_facts::{Pair, precedes};
 use crate::placed::Placed;
 use crate::values::initial_at;
 use models::{Kind, Model};
@@ -66,7 +66,8 @@ impl<M: Model> Candidate<'_, M> {
     fn must_precede(&self, x: usize, y: usize) -> bool
         ensures { Tells result (MustPrecede (M.Model.meaning self.now.model.now) self.now.places.now x y) }
     {
-        self.model.keeps(facts_of(self.places, x, y)) || self.one_location(x, y)
+        let places = self.places;
+        self.model.keeps(Pair { places, x, y }.facts()) || self.one_location(x, y)
     }
 
     // Whether x stands before y in the order, if it must.

@@ -1,8 +1,8 @@
 // The facts of an earlier and a later instruction of one thread.
-ghost use Rattle.std.specs.Prelude.{Bool, true, false, MatchBool};
+ghost use Rattle.std.specs.Prelude.{◌≡◌, Bool, true, false, MatchBool};
 ghost use Rattle.models.specs.Tells.{Tells};
 ghost use Rattle.semantics.specs.PairFacts.{EachBetween, SomeBetween, SameAddr, DataDep, ControlDep, HasFacts};
-ghost use Rattle.semantics.specs.Program.{Precedes};
+ghost use Rattle.semantics.specs.Program.{Precedes, instruction_at};
 
 use crate::instruction::Instruction;
 use crate::placed::{Placed, place_at};
@@ -15,58 +15,78 @@ pub(crate) fn precedes(places: &[Placed], x: usize, y: usize) -> bool
     x < y && y < places.len() && place_at(places, x).thread == place_at(places, y).thread
 }
 
-fn same_addr(places: &[Placed], x: usize, y: usize) -> bool
-    ensures { Tells result (SameAddr places.now x y) }
-{
-    let Some(location) = place_at(places, x).instruction.location() else {
-        return false;
-    };
-    place_at(places, y).instruction.location() == Some(location)
+// Two places of a test. Where their facts are asked for, x stands before y in one thread.
+#[derive(Clone, Copy)]
+pub(crate) struct Pair<'a> {
+    pub(crate) places: &'a [Placed],
+    pub(crate) x: usize,
+    pub(crate) y: usize,
 }
 
-// Whether nothing between x and y in their thread is such an instruction.
-fn none_between<F: Fn(Instruction) -> bool>(places: &[Placed], x: usize, y: usize, such: F) -> bool
-    requires { F.IsAlwaysCallable such }
-    ensures { MatchBool result
-        (EachBetween places.now x y (λ i. F.post such i false))
-        (SomeBetween places.now x y (λ i. F.post such i true)) }
-{
-    !(x..y).any(|z| {
-        precedes(places, x, z) && precedes(places, z, y) && such(place_at(places, z).instruction)
-    })
-}
+impl Pair<'_> {
+    fn earlier(&self) -> Instruction
+        ensures { result ≡ instruction_at self.now.places.now self.now.x }
+    {
+        place_at(self.places, self.x).instruction
+    }
 
-// Whether y names the target of x, and nothing between them has that target.
-fn data_dep(places: &[Placed], x: usize, y: usize) -> bool
-    ensures { Tells result (DataDep places.now x y) }
-{
-    let Some(target) = place_at(places, x).instruction.target() else {
-        return false;
-    };
-    place_at(places, y).instruction.names(target)
-        && none_between(places, x, y, |between| between.target() == Some(target))
-}
+    fn later(&self) -> Instruction
+        ensures { result ≡ instruction_at self.now.places.now self.now.y }
+    {
+        place_at(self.places, self.y).instruction
+    }
 
-// Whether x is a branch, and y is the first write after it.
-fn control_dep(places: &[Placed], x: usize, y: usize) -> bool
-    ensures { Tells result (ControlDep places.now x y) }
-{
-    let earlier = place_at(places, x).instruction.kind();
-    let later = place_at(places, y).instruction.kind();
-    earlier == Kind::Branch
-        && later == Kind::Write
-        && none_between(places, x, y, |between| between.kind() == Kind::Write)
-}
+    fn same_addr(&self) -> bool
+        ensures { Tells result (SameAddr self.now.places.now self.now.x self.now.y) }
+    {
+        let Some(location) = self.earlier().location() else {
+            return false;
+        };
+        self.later().location() == Some(location)
+    }
 
-// The facts of x, the earlier, and y, the later of two instructions of one thread.
-pub(crate) fn facts_of(places: &[Placed], x: usize, y: usize) -> Facts
-    ensures { HasFacts places.now x y result }
-{
-    Facts {
-        earlier: place_at(places, x).instruction.kind(),
-        later: place_at(places, y).instruction.kind(),
-        same_addr: same_addr(places, x, y),
-        data_dep: data_dep(places, x, y),
-        control_dep: control_dep(places, x, y),
+    // Whether nothing between the two in their thread is such an instruction.
+    fn none_between<F: Fn(Instruction) -> bool>(&self, such: F) -> bool
+        requires { F.IsAlwaysCallable such }
+        ensures { MatchBool result
+            (EachBetween self.now.places.now self.now.x self.now.y (λ i. F.post such i false))
+            (SomeBetween self.now.places.now self.now.x self.now.y (λ i. F.post such i true)) }
+    {
+        !(self.x..self.y).any(|z| {
+            precedes(self.places, self.x, z)
+                && precedes(self.places, z, self.y)
+                && such(place_at(self.places, z).instruction)
+        })
+    }
+
+    // Whether the later names the target of the earlier, and nothing between them has that target.
+    fn data_dep(&self) -> bool
+        ensures { Tells result (DataDep self.now.places.now self.now.x self.now.y) }
+    {
+        let Some(target) = self.earlier().target() else {
+            return false;
+        };
+        self.later().names(target) && self.none_between(|between| between.target() == Some(target))
+    }
+
+    // Whether the earlier is a branch, and the later is the first write after it.
+    fn control_dep(&self) -> bool
+        ensures { Tells result (ControlDep self.now.places.now self.now.x self.now.y) }
+    {
+        self.earlier().kind() == Kind::Branch
+            && self.later().kind() == Kind::Write
+            && self.none_between(|between| between.kind() == Kind::Write)
+    }
+
+    pub(crate) fn facts(&self) -> Facts
+        ensures { HasFacts self.now.places.now self.now.x self.now.y result }
+    {
+        Facts {
+            earlier: self.earlier().kind(),
+            later: self.later().kind(),
+            same_addr: self.same_addr(),
+            data_dep: self.data_dep(),
+            control_dep: self.control_dep(),
+        }
     }
 }

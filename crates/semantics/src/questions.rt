@@ -10,7 +10,7 @@ ghost use Rattle.semantics.specs.Values.{stores};
 
 use crate::access::{Access, access_at};
 use crate::orders::{complete, fulfils};
-use crate::pair_facts::{facts_of, precedes};
+use crate::pair_facts::{Pair, precedes};
 use crate::test::Test;
 use crate::values::value_at;
 use models::{Facts, Model};
@@ -35,7 +35,7 @@ impl Test {
         ensures { MatchOption result (Precedes (places_of self.now) x y → ⊥) (λ f. Precedes (places_of self.now) x y × HasFacts (places_of self.now) x y f) }
     {
         let places = self.places();
-        precedes(places, x, y).then(|| facts_of(places, x, y))
+        precedes(places, x, y).then(|| Pair { places, x, y }.facts())
     }
 
     // Whether each read has an expected value: these together are the outcome.

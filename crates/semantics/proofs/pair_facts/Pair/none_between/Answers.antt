@@ -6,7 +6,7 @@ use Rattle.semantics.specs.PairFacts.{EachBetween, SomeBetween}
 use Rattle.semantics.specs.Program.{Precedes, instruction_at}
 use Rattle.semantics.specs.declared.instruction.Instruction.{Instruction}
 use Rattle.semantics.specs.declared.placed.Placed.{Placed}
-use Rattle.semantics.proofs.pair_facts.none_between.Goals as goal
+use Rattle.semantics.proofs.pair_facts.Pair.none_between.Goals as goal
 
 module _ (ps : List Placed) (x y : ℕ) where
   -- z stands between them, and is such an instruction
@@ -28,8 +28,8 @@ module _ (ps : List Placed) (x y : ℕ) where
 
 pub returns : goal.returns
 returns g c =
-    let ps = c.args.places.now in
-    let x = c.args.x in
-    let y = c.args.y in
+    let ps = c.args.self.now.places.now in
+    let x = c.args.self.now.x in
+    let y = c.args.self.now.y in
     searched ps x y (λ i. goal.F-post g c.args.such i false) (λ i. goal.F-post g c.args.such i true) _
     (cases_from_any _ _ _ (Between ps x y (λ i. goal.F-post g c.args.such i true)) (IfBetween ps x y (λ i. goal.F-post g c.args.such i false)) c.any.ensures.ran (YieldsList-from_range x y _ refl refl) (λ z q k. search (rules, tests)) (λ z q k. search (rules, tests)))
