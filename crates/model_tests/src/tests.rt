@@ -95,7 +95,6 @@ fn formula_lengths(rt: HostRuntime) {
 
 // Whether two models keep the same of all pairs of two kinds.
 fn same_answers<A: Model, B: Model>(a: &A, b: &B, earlier: Kind, later: Kind) -> bool {
-    let mut same = true;
     for same_addr in [false, true] {
         for data_dep in [false, true] {
             for control_dep in [false, true] {
@@ -106,21 +105,24 @@ fn same_answers<A: Model, B: Model>(a: &A, b: &B, earlier: Kind, later: Kind) ->
                     data_dep,
                     control_dep,
                 };
-                same = same & (a.keeps(facts) == b.keeps(facts));
+                if a.keeps(facts) != b.keeps(facts) {
+                    return false;
+                }
             }
         }
     }
-    same
+    true
 }
 
 fn alike<A: Model, B: Model>(a: &A, b: &B) -> bool {
-    let mut same = true;
     for earlier in Kind::all() {
         for later in Kind::all() {
-            same = same & same_answers(a, b, earlier, later);
+            if !same_answers(a, b, earlier, later) {
+                return false;
+            }
         }
     }
-    same
+    true
 }
 
 const NAMED: [(&str, &str); 4] = [
