@@ -1,7 +1,8 @@
 -- A text has at most one tree: from the same words, the longest formula, term or factor is one and the same.
 use Rattle.std.proofs.Common.{◌≡◌, ℕ, List, ◌∷◌, sym, refl, subst, ap₂, arith}
 use Rattle.formulas.specs.Grammar.{Level, formula, Reads, one_term, more_terms, one_factor, more_factors, name, bracketed}
-use Rattle.formulas.specs.Readers.{NotFirst, Stops}
+use Rattle.formulas.specs.Items.{NotFirst}
+use Rattle.formulas.specs.Readers.{Stops}
 use Rattle.models.specs.Trees.{Tree, both, either}
 use Rattle.formulas.specs.declared.token.Token.{Token}
 use Rattle.formulas.specs.declared.token.Token.TheVariants.{And, Or, Close}

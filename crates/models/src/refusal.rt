@@ -2,6 +2,8 @@
 ghost use Rattle.std.specs.Prelude.{◌≡◌};
 ghost use Rattle.models.specs.Refusals.{told, number_of, place_of};
 
+use std::alloc::AllocError;
+
 #[derive(Clone, Copy, Debug)]
 pub enum Refusal {
     // 10: a formula text of over 256 bytes
@@ -42,5 +44,15 @@ impl Refusal {
             Refusal::UnknownWord(place) => Some(place),
             _ => None,
         }
+    }
+}
+
+impl From<AllocError> for Refusal {
+    ghost use Rattle.models.specs.declared.refusal.Refusal.TheVariants.{OutOfMemory};
+
+    ghost from_gives = { λ _ e. e ≡ OutOfMemory };
+
+    fn from(_error: AllocError) -> Refusal {
+        Refusal::OutOfMemory
     }
 }
