@@ -99,8 +99,8 @@ impl<'a> Lexer<'a> {
     }
 }
 
-// Whether all is known in a text, or the place of its first unknown word or byte.
-pub fn known_throughout(text: &[u8]) -> Result<(), usize>
+// The place of the first unknown word or byte, if there is one.
+pub fn check_words(text: &[u8]) -> Result<(), usize>
     ensures { MatchResult result (λ _. ((p : ℕ) → Unknown text.now p → ⊥) × ((ts : List Token) × Tokens text.now 0 ts)) (λ p. FirstUnknown text.now p) }
 {
     let mut lexer = Lexer::new(text);

@@ -9,7 +9,7 @@ ghost use Rattle.formulas.specs.Words.{Tokens};
 ghost use Rattle.formulas.specs.declared.token.Token.{Token};
 
 use crate::depth::too_deep;
-use crate::lexer::{Lexer, known_throughout};
+use crate::lexer::{Lexer, check_words};
 use crate::token::Token;
 use models::{Formula, Refusal};
 use std::alloc::{AllocError, Global};
@@ -93,7 +93,7 @@ fn screen(text: &[u8]) -> Result<(), Refusal>
     if text.len() > LONGEST {
         return Err(Refusal::FormulaTooLong);
     }
-    known_throughout(text).map_err(Refusal::UnknownWord)?;
+    check_words(text).map_err(Refusal::UnknownWord)?;
     if too_deep(text) {
         return Err(Refusal::TooDeep);
     }

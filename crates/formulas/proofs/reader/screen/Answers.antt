@@ -7,8 +7,8 @@ use Rattle.formulas.proofs.reader.screen.Goals.{In_ok-map_err}
 
 words : (c : In_ok-map_err) → ((p : ℕ) → Unknown c.args.text.now p → ⊥) × ((ts : List Token) × Tokens c.args.text.now 0 ts)
 words c =
-    let known : c.known_throughout.result ≡ Ok tt = grind (arith, common_steps) in
-    rw known at c.known_throughout.ensures
+    let known : c.check_words.result ≡ Ok tt = grind (arith, common_steps) in
+    rw known at c.check_words.ensures
 
 pub returns-then-too_deep : goal.returns-then-too_deep
 returns-then-too_deep c = (omega arith, (words (goal.at.returns-then-too_deep c).In_ok-map_err).0, c.if-too_deep.ensures)

@@ -1,7 +1,7 @@
 use Rattle.std.proofs.Common.{rules, ◌≡◌, true, false, is_some, Ok, Some, None, Option, Err}
 use Rattle.formulas.specs.Words.{FirstUnknown}
 use Rattle.formulas.proofs.Lexing.{cleared, cleared_all, cleared_more}
-use Rattle.formulas.proofs.lexer.known_throughout.Goals as goal
+use Rattle.formulas.proofs.lexer.check_words.Goals as goal
 
 pub returns-in_err-next_token : goal.returns-in_err-next_token
 returns-in_err-next_token c =
