@@ -1,11 +1,11 @@
 -- The words of a formula text: what comes next in it, and that its words are the only ones.
-use Rattle.std.proofs.Common.{◌≡◌, ◌==◌, ℕ, zero, suc, ◌+◌, ◌-◌, ◌<◌, ◌≤◌, max, true, false, cond, eqb, Bool, List, [], ◌∷◌, length, get_or, take, drop, Some, None, Option, Ok, Err, Result, is_some, sym, refl, ap, ◌∙◌, subst, ⊎_elim, arith, below_more, ◌≢◌, MatchOption, length-drop, get_or-drop, get_or-take, drop-cons}
+use Rattle.std.proofs.Common.{◌≡◌, ◌==◌, ℕ, zero, suc, ◌+◌, ◌-◌, ◌<◌, ◌≤◌, max, true, false, cond, eqb, Bool, List, [], ◌∷◌, length, get_or, take, drop, Some, None, Option, Ok, Err, Result, is_some, sym, refl, ap, ◌∙◌, subst, ⊎_elim, arith, below_more, ◌≢◌, length-drop, get_or-drop, get_or-take, drop-cons}
 use Rattle.std.specs.List.{prefix_len}
 use Rattle.std.specs.Str.{bytes_eq}
 use Rattle.std.proofs.lemmas.Bool.{false≢true, both_ways, cases_eq, cases_lt, eqb-true}
 use Rattle.std.proofs.lemmas.List.{take_all}
 use Rattle.std.proofs.lemmas.List.Sums.{prefix_len_passes, prefix_len_stops, prefix_len-le-length, prefix_len-drop_yes, prefix_len-drop_no}
-use Rattle.formulas.specs.Items.{Comes, bytes_of, NotFirst, AfterSign}
+use Rattle.formulas.specs.Items.{Comes, bytes_of, AfterSign}
 use Rattle.formulas.specs.Items.Comes.{end, space, sign, word, strange_byte, strange_word}
 use Rattle.formulas.specs.Words.{letter, spelling, sign_byte, part, Run, Fresh, Strange, Unknown, FirstUnknown, Tokens}
 use Rattle.formulas.specs.Words.Tokens.{end as the_end, space as a_space, sign as a_sign, word as a_word}
@@ -17,7 +17,7 @@ use Rattle.models.specs.declared.Word.TheVariants.{True, ReadX, ReadY, WriteX, W
 
 -- what holds of each sign and its byte
 by_sign : (P : ℕ → Token → Type 0) → P 38 And → P 124 Or → P 40 Open → P 41 Close → (b : ℕ) (t : Token) → sign_byte t ≡ Some b → P b t
-by_sign P a o l r b (Name w) e = let z : ◌≡◌ {A = ℕ} 0 1 = cc in absurd (omega arith)
+by_sign P a o l r b (Name w) e = cc
 by_sign P a o l r b And e = subst (λ x. P x And) (cc) a
 by_sign P a o l r b Or e = subst (λ x. P x Or) (cc) o
 by_sign P a o l r b Open e = subst (λ x. P x Open) (cc) l
@@ -136,26 +136,30 @@ module _ {s : List ℕ} where
   after (strange_word j q n) (a_sign t h e r) = first_letter q (signed _ t e).0
   after {i} (strange_word j q n) (a_word w k p e r) = n w (ap (part s i) (same_end q p (omega arith) (omega arith)) ∙ e)
 
-  -- a word or sign ends past where it was looked for
-  pub forward : {i : ℕ} {t : Token} {j : ℕ} → Comes s i (Ok (Some t)) j → i < j
-  forward (space on b c) = omega (arith, forward c)
-  forward (sign t on e) = omega arith
-  forward (word w j q e) = q.some
-
   -- what comes is the first of the words, and no other is
   pub first_is : {i : ℕ} {o : Result (Option Token) ℕ} {j : ℕ} → Comes s i o j → (t : Token) → o ≡ Ok (Some t) → AfterSign s i t true j
   first_is {i} {j = j} c t is ts all = after (subst (λ o. Comes s i o j) is c) all
 
   pub first_is_not : {i : ℕ} {o : Result (Option Token) ℕ} {j : ℕ} → Comes s i o j → (t : Token) → (o ≡ Ok (Some t) → ⊥) → AfterSign s i t false j
-  first_is_not {o = Ok None} c t other ts all us e = let none = after c all in let z : ◌≡◌ {A = ℕ} 0 1 = cc in absurd (omega arith)
+  first_is_not {o = Ok None} c t other ts all us e = let none = after c all in cc
   first_is_not {o = Ok (Some u)} c t other ts all us e = let one = after c all in let is = one.1 in let same : u ≡ t = cc in other (ap (λ v. Ok (Some v)) same)
   first_is_not {o = Err p} c t other ts all us e = after c all
 
   -- where there are no more words, nothing comes
   pub none_left : {i : ℕ} {o : Result (Option Token) ℕ} {j : ℕ} → Comes s i o j → Tokens s i [] → o ≡ Ok None
   none_left {o = Ok None} c all = refl
-  none_left {o = Ok (Some u)} c all = let e = (after c all).1 in let z : ◌≡◌ {A = ℕ} 0 1 = cc in absurd (omega arith)
+  none_left {o = Ok (Some u)} c all = let e = (after c all).1 in cc
   none_left {o = Err p} c all = absurd (after c all)
+
+  -- the words from a place on are what comes there and the words past it
+  pub before : {i : ℕ} {t : Token} {j : ℕ} {ts : List Token} → Comes s i (Ok (Some t)) j → Tokens s j ts → Tokens s i (t ∷ ts)
+  before (space on b c) r = a_space on b (before c r)
+  before (sign t on e) r = a_sign t on e r
+  before (word w j q e) r = a_word w j q e r
+
+  pub no_more : {i j : ℕ} → Comes s i (Ok None) j → Tokens s i []
+  no_more (end off) = the_end off
+  no_more (space on b c) = a_space on b (no_more c)
 
   -- what is unknown stands within the text
   in_text : {p : ℕ} → Unknown s p → p < length s
@@ -211,9 +215,6 @@ module _ {s : List ℕ} where
   pub cleared_all : {i : ℕ} {o : Option Token} {j : ℕ} → Clear s i → Comes s i (Ok o) j → false ≡ is_some o → Cleared s (Ok None) j
   cleared_all {o = None} c n e = cleared c n
   cleared_all {o = Some t} c n e = absurd (false≢true e)
-
-  pub start : 0 ≤ length s → Clear s 0
-  start h = record { within = h; starts = λ on l k e. absurd (omega arith); known = λ q h u. absurd (omega arith); before = λ ts t. (ts, t) }
 
 abbrev pub blank : ℕ → Bool
 blank b = b == 32
@@ -311,10 +312,10 @@ module _ (s : List ℕ) where
       piece_strange none = strange_at (letter (get_or s i 0)) refl (λ t e. none t (piece ∙ e))
 
 -- the rest of s from i on, as a range gives it
-abbrev rest : List ℕ → ℕ → List ℕ
+abbrev pub rest : List ℕ → ℕ → List ℕ
 rest s i = take (length s - i) (drop i s)
 
-rest_is : (s : List ℕ) (i : ℕ) → rest s i ≡ drop i s
+pub rest_is : (s : List ℕ) (i : ℕ) → rest s i ≡ drop i s
 rest_is s i = take_all _ (drop i s) (omega (arith, length-drop i s))
 
 -- what comes from i on, where n spaces stand first, and then a piece of m bytes: the letters, or one byte

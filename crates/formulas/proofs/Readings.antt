@@ -1,18 +1,16 @@
 -- What a reader may conclude from what the readers that it called found.
-use Rattle.std.proofs.Common.{◌≡◌, ℕ, true, false, Bool, ◌⊎◌, List, [], ◌∷◌, is_some, IfOk, Some, None, Ok, Err, Option, Result, sym, refl, subst, inl, inr, ⊎_elim, arith, MatchResult}
+use Rattle.std.proofs.Common.{◌≡◌, ℕ, true, false, Bool, ◌⊎◌, List, [], ◌∷◌, IfOk, Some, None, Ok, Option, Result, sym, refl, subst, inl, inr, ⊎_elim}
 use Rattle.std.specs.Bool.{then_some}
 use Rattle.std.specs.declared.alloc.AllocError.{AllocError}
-use Rattle.formulas.specs.Grammar.{Level, formula, term, factor, Reads, one_term, more_terms, one_factor, more_factors, name, bracketed, Forms, Admitted, Taken, Refused, Unambiguous}
+use Rattle.formulas.specs.Grammar.{Level, formula, term, factor, Reads, one_term, more_terms, one_factor, more_factors, name, bracketed, Forms, Admitted, Taken, Unambiguous}
 use Rattle.formulas.specs.Items.{Comes, NotFirst, AfterSign}
 use Rattle.formulas.specs.Readers.{Stops, Longest, Finds}
-use Rattle.models.specs.Refusals.{told, unnumbered}
 use Rattle.models.specs.Trees.{Tree, word, both, either, shape}
 use Rattle.formulas.specs.Words.{Tokens}
 use Rattle.models.specs.declared.Formula.{Formula}
 use Rattle.formulas.specs.declared.token.Token.{Token}
 use Rattle.formulas.specs.declared.token.Token.TheVariants.{Name, And, Or, Open, Close}
 use Rattle.models.specs.declared.Word.{Word}
-use Rattle.models.specs.declared.Refusal.{Refusal}
 use Rattle.formulas.proofs.Lexing.{after, first_is, first_is_not, none_left, tokens_unique}
 use Rattle.formulas.proofs.Grammars.{determined, or_no_and, close_stops, same_rest}
 
@@ -48,9 +46,6 @@ pub alike : {l : Level} {ts us vs : List Token} {t u : Tree} → Longest l ts t 
 alike h k = determined h.reads h.stops k.reads k.stops
 
 module _ {upper lower : Level} {sign : Token} {join : Tree → Tree → Tree} (j : Joined upper lower sign join) (s : List ℕ) (i : ℕ) where
-  pub none_first : (m n : ℕ) → Finds lower s i None m → Finds upper s i None n
-  none_first m n no_lower ts all t us h = ⊎_elim (λ a. no_lower ts all _ _ a.0) (λ b. no_lower ts all _ _ b.3) (j.split h)
-
   no_rest : {ts us : List Token} {t : Tree} → Longest lower ts t (sign ∷ us) → ((u : Tree) (vs : List Token) → Longest upper us u vs → ⊥) → (u : Tree) (vs : List Token) → Longest upper ts u vs → ⊥
   no_rest {us = us} first no_upper u vs h =
       ⊎_elim
@@ -89,9 +84,6 @@ no_factor no_name no_bracket t us h =
     (λ b. no_bracket b.0 b.1 t us (record { reads = b.2; stops = close_stops us }))
     (factor_reads h.reads)
 
-clash : {X : Type 0} → ◌≡◌ {A = ℕ} 0 1 → X
-clash e = absurd (omega arith)
-
 -- nothing that a factor may begin with comes
 pub none_comes : {s : List ℕ} {i : ℕ} {o : Result (Option Token) ℕ} {j : ℕ} → Comes s i o j → ((w : Word) → o ≡ Ok (Some (Name w)) → ⊥) → (o ≡ Ok (Some Open) → ⊥) → (k : ℕ) → Finds factor s i None k
 none_comes c no_name no_open k ts all =
@@ -108,7 +100,7 @@ module _ {s : List ℕ} {i j : ℕ} {o : Result (Option Token) ℕ} (c : Comes s
   no_bracketed ts all none =
       let (us, begins, rest) = first_is c Open is ts all in
       no_factor
-      (λ w vs f. let z : ◌≡◌ {A = ℕ} 0 1 = cc in clash z)
+      (λ w vs f. cc)
       (λ vs f t ws h. let same : us ≡ vs = cc in none vs (subst (λ (x : List Token). Tokens s j x) same rest) t ws h)
 
   pub none_inside : (m k : ℕ) → Finds formula s j None m → Finds factor s i None k
@@ -130,15 +122,11 @@ module _ {s : List ℕ} {i j : ℕ} {o : Result (Option Token) ℕ} (c : Comes s
         )
 
 nothing_stops : Stops formula []
-nothing_stops = (λ vs e. let z : ◌≡◌ {A = ℕ} 0 1 = cc in clash z, λ vs e. let z : ◌≡◌ {A = ℕ} 0 1 = cc in clash z)
+nothing_stops = (λ vs e. cc, λ vs e. cc)
 
 -- a formula's words, all of a text's, are the longest formula that they begin with
 whole : {s : List ℕ} {ts : List Token} {t : Tree} → Tokens s 0 ts → Forms s t → Longest formula ts t []
 whole {ts = ts} {t = t} all (us, same, reads) = record { reads = subst (λ (x : List Token). Reads formula x t []) (tokens_unique _ same all) reads; stops = nothing_stops }
-
--- a text of which no formula is read, or which goes on past it, is none
-pub none_read : {s : List ℕ} {ts : List Token} → Tokens s 0 ts → (k : ℕ) → Finds formula s 0 None k → (t : Tree) → Forms s t → ⊥
-none_read all k none t forms = none _ all t [] (whole all forms)
 
 module _ {s : List ℕ} {ts : List Token} (all : Tokens s 0 ts) (p : Result Formula AllocError) (j : ℕ) (read : Finds formula s 0 (Some p) j) (o : Result (Option Token) ℕ) (k : ℕ) (c : Comes s j o k) where
   pub left_over : (o ≡ Ok None → ⊥) → (t : Tree) → Forms s t → ⊥

@@ -11,7 +11,7 @@ use models::Word;
 fn is_letter(byte: u8) -> bool
     ensures { result ≡ letter byte }
 {
-    byte.is_ascii_alphabetic() | (byte == b'.')
+    byte.is_ascii_alphabetic() || byte == b'.'
 }
 
 // How many bytes from the front on pass the test.
@@ -27,24 +27,24 @@ fn leading<F: Fn(u8) -> bool>(bytes: &[u8], test: F) -> usize
 fn known(bytes: &[u8]) -> Option<Token>
     ensures { MatchOption result ((t : Token) → bytes.now ≢ bytes_of t) (λ t. bytes.now ≡ bytes_of t) }
 {
-    let word = match bytes {
-        b"&" => return Some(Token::And),
-        b"|" => return Some(Token::Or),
-        b"(" => return Some(Token::Open),
-        b")" => return Some(Token::Close),
-        b"true" => Word::True,
-        b"Read.x" => Word::ReadX,
-        b"Read.y" => Word::ReadY,
-        b"Write.x" => Word::WriteX,
-        b"Write.y" => Word::WriteY,
-        b"Fence.x" => Word::FenceX,
-        b"Fence.y" => Word::FenceY,
-        b"SameAddr" => Word::SameAddr,
-        b"DataDep" => Word::DataDep,
-        b"ControlDep" => Word::ControlDep,
+    let token = match bytes {
+        b"&" => Token::And,
+        b"|" => Token::Or,
+        b"(" => Token::Open,
+        b")" => Token::Close,
+        b"true" => Token::Name(Word::True),
+        b"Read.x" => Token::Name(Word::ReadX),
+        b"Read.y" => Token::Name(Word::ReadY),
+        b"Write.x" => Token::Name(Word::WriteX),
+        b"Write.y" => Token::Name(Word::WriteY),
+        b"Fence.x" => Token::Name(Word::FenceX),
+        b"Fence.y" => Token::Name(Word::FenceY),
+        b"SameAddr" => Token::Name(Word::SameAddr),
+        b"DataDep" => Token::Name(Word::DataDep),
+        b"ControlDep" => Token::Name(Word::ControlDep),
         _ => return None,
     };
-    Some(Token::Name(word))
+    Some(token)
 }
 
 // A text, and how far its words and signs have been read.

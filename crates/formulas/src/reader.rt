@@ -38,7 +38,7 @@ struct Reader<'a> {
 }
 
 impl Reader<'_> {
-    #[cycle(read_factor_read_formula_read_term)]
+    #[cycle(grammar)]
     fn read_factor(&mut self) -> Option<Result<Formula, AllocError>>
         ensures finds { Finds factor self.old.lexer.text.now self.old.lexer.at result self.new.lexer.at }
         ensures advances { IfSome result (λ _. self.old.lexer.at < self.new.lexer.at) }
@@ -54,7 +54,7 @@ impl Reader<'_> {
         }
     }
 
-    #[cycle(read_factor_read_formula_read_term)]
+    #[cycle(grammar)]
     fn read_term(&mut self) -> Option<Result<Formula, AllocError>>
         ensures finds { Finds term self.old.lexer.text.now self.old.lexer.at result self.new.lexer.at }
         ensures advances { IfSome result (λ _. self.old.lexer.at < self.new.lexer.at) }
@@ -68,7 +68,7 @@ impl Reader<'_> {
         Some(join(self.heap, Formula::Both, first, rest))
     }
 
-    #[cycle(read_factor_read_formula_read_term)]
+    #[cycle(grammar)]
     fn read_formula(&mut self) -> Option<Result<Formula, AllocError>>
         ensures finds { Finds formula self.old.lexer.text.now self.old.lexer.at result self.new.lexer.at }
         ensures advances { IfSome result (λ _. self.old.lexer.at < self.new.lexer.at) }

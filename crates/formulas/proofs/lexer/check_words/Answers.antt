@@ -1,4 +1,4 @@
-use Rattle.std.proofs.Common.{rules, ◌≡◌, true, false, is_some, Ok, Some, None, Option, Err}
+use Rattle.std.proofs.Common.{rules}
 use Rattle.formulas.specs.Words.{FirstUnknown}
 use Rattle.formulas.proofs.Lexing.{cleared, cleared_all, cleared_more}
 use Rattle.formulas.proofs.lexer.check_words.Goals as goal

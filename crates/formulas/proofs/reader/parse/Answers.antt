@@ -1,6 +1,6 @@
-use Rattle.std.proofs.Common.{◌≡◌, Some, arith, rules, subst}
+use Rattle.std.proofs.Common.{◌≡◌, Some, arith, rules}
 use Rattle.std.proofs.lemmas.Result.{err_from_is_err_and, IfOk-at_ok}
-use Rattle.formulas.specs.Grammar.{formula, Taken}
+use Rattle.formulas.specs.Grammar.{formula}
 use Rattle.formulas.specs.Items.{Comes}
 use Rattle.formulas.specs.Readers.{Finds}
 use Rattle.models.specs.Trees.{shape}

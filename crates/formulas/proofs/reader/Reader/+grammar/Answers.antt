@@ -1,7 +1,7 @@
 use Rattle.std.proofs.Common.{rules}
 use Rattle.models.specs.Trees.{both, either}
 use Rattle.formulas.proofs.Readings.{factors, terms, none_rest, found_one, found_more, found_name, closed, none_inside, none_comes}
-use Rattle.formulas.proofs.reader.Reader.+read_factor_read_formula_read_term.Goals as goal
+use Rattle.formulas.proofs.reader.Reader.+grammar.Goals as goal
 
 pub read_factor-returns-in_err-inner-in-Ok-Some-Open-clause-finds :
     goal.read_factor-returns-in_err-inner-in-Ok-Some-Open-clause-finds

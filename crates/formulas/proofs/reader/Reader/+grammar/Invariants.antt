@@ -1,6 +1,6 @@
 -- Each reader has fewer bytes left than the one that called it, or as many and stands lower in the grammar.
 use Rattle.std.proofs.Common.{◌+◌, ◌-◌, ◌*◌, length}
-use Rattle.formulas.proofs.reader.Reader.+read_factor_read_formula_read_term.Given as goal
+use Rattle.formulas.proofs.reader.Reader.+grammar.Given as goal
 
 abbrev pub decreases-read_factor : goal.decreases-read_factor
 decreases-read_factor l = 3 * (length l.self.now.lexer.text.now - l.self.now.lexer.at)
