@@ -69,6 +69,24 @@ long SameAddr = omega arith
 long DataDep = omega arith
 long ControlDep = omega arith
 
+-- a word begins with a letter, a sign is another byte
+by_letter : (t : Token) → letter (get_or (bytes_of t) 0 0) ≡ true → (w : Word) × (t ≡ Name w)
+by_letter (Name w) e = (w, refl)
+by_letter And e = absurd (both_ways _ refl e)
+by_letter Or e = absurd (both_ways _ refl e)
+by_letter Open e = absurd (both_ways _ refl e)
+by_letter Close e = absurd (both_ways _ refl e)
+
+by_byte : (b : ℕ) (t : Token) → b ∷ [] ≡ bytes_of t → sign_byte t ≡ Some b
+by_byte b (Name w) e = absurd (omega (arith, ap length e, long w))
+by_byte b And e = cc
+by_byte b Or e = cc
+by_byte b Open e = cc
+by_byte b Close e = cc
+
+byte_of : (b : ℕ) (t : Token) → sign_byte t ≡ Some b → b ∷ [] ≡ bytes_of t
+byte_of = by_sign _ refl refl refl refl
+
 -- what the words from a place on are, by what comes there and ends before j
 abbrev pub After : List ℕ → Result (Option Token) ℕ → ℕ → List Token → Type 0
 After s (Ok None) j ts = ts ≡ []
@@ -255,61 +273,30 @@ module _ (s : List ℕ) where
     one : take 1 (drop i s) ≡ get_or s i 0 ∷ []
     one = rw (drop-cons s i 0) refl
 
-    -- a word begins with a letter, a sign is another byte
-    by_letter : (t : Token) → letter (get_or (bytes_of t) 0 0) ≡ true → (w : Word) × (t ≡ Name w)
-    by_letter (Name w) e = (w, refl)
-    by_letter And e = absurd (both_ways _ refl e)
-    by_letter Or e = absurd (both_ways _ refl e)
-    by_letter Open e = absurd (both_ways _ refl e)
-    by_letter Close e = absurd (both_ways _ refl e)
-
-    by_byte : (b : ℕ) (t : Token) → b ∷ [] ≡ bytes_of t → sign_byte t ≡ Some b
-    by_byte b (Name w) e = absurd (omega (arith, ap length e, long w))
-    by_byte b And e = cc
-    by_byte b Or e = cc
-    by_byte b Open e = cc
-    by_byte b Close e = cc
-
-    byte_of : (b : ℕ) (t : Token) → sign_byte t ≡ Some b → b ∷ [] ≡ bytes_of t
-    byte_of = by_sign _ refl refl refl refl
-
-    abbrev letters : ℕ
-    letters = prefix_len letter (drop i s)
-
     part_is : (m : ℕ) → part s i (i + m) ≡ take m (drop i s)
     part_is m = ap (λ k. take k (drop i s)) (omega arith)
 
-    known_at : (b : Bool) → letter (get_or s i 0) ≡ b → (t : Token) → take (max letters 1) (drop i s) ≡ bytes_of t → Comes s i (Ok (Some t)) (i + max letters 1)
-    known_at true begins t e =
-        let r = run begins in
-        let size : max letters 1 ≡ letters = omega arith in
-        let first : get_or (take (max letters 1) (drop i s)) 0 0 ≡ get_or s i 0 = get_or-take _ (drop i s) 0 0 (omega arith) ∙ get_or-drop i s 0 0 ∙ ap (λ m. get_or s m 0) (omega arith) in
-        let (w, is) = by_letter t (ap (λ l. letter (get_or l 0 0)) (sym e) ∙ ap letter first ∙ begins) in
-        let same : part s i (i + letters) ≡ spelling w = part_is letters ∙ ap (λ m. take m (drop i s)) (sym size) ∙ e ∙ ap bytes_of is in
-        subst (λ u. Comes s i (Ok (Some u)) (i + max letters 1)) (sym is) (subst (λ m. Comes s i (Ok (Some (Name w))) (i + m)) (sym size) (word w _ r same))
-    known_at false other t e =
-        let size : max letters 1 ≡ 1 = omega (arith, prefix_len-drop_no letter s i 0 on other) in
-        subst (λ m. Comes s i (Ok (Some t)) (i + m)) (sym size) (sign t on (by_byte _ t (sym one ∙ ap (λ m. take m (drop i s)) (sym size) ∙ e)))
+    -- a piece of m bytes is the letters that the text goes on with, or one byte
+    module _ (m : ℕ) (size : m ≡ max (prefix_len letter (drop i s)) 1) where
+      run_of : letter (get_or s i 0) ≡ true → Run s i (i + m)
+      run_of begins = let r = run begins in subst (λ k. Run s i (i + k)) (omega arith) r
 
-    strange_at : (b : Bool) → letter (get_or s i 0) ≡ b → ((t : Token) → take (max letters 1) (drop i s) ≢ bytes_of t) → (get_or s i 0 ≡ 32 → ⊥) → Comes s i (Err i) i
-    strange_at true begins none full =
-        let r = run begins in
-        let size : max letters 1 ≡ letters = omega arith in
-        strange_word _ r (λ w e. none (Name w) (ap (λ m. take m (drop i s)) size ∙ sym (part_is letters) ∙ e))
-    strange_at false other none full =
-        let size : max letters 1 ≡ 1 = omega (arith, prefix_len-drop_no letter s i 0 on other) in
-        strange_byte on (record { no_letter = other; no_space = full; no_sign = λ t e. none t (ap (λ m. take m (drop i s)) size ∙ one ∙ byte_of _ t e) })
+      single : letter (get_or s i 0) ≡ false → m ≡ 1
+      single other = omega (arith, prefix_len-drop_no letter s i 0 on other)
 
-    module _ (l : List ℕ) (m : ℕ) (is : l ≡ drop i s) (size : m ≡ max (prefix_len letter l) 1) where
-      piece : take m l ≡ take (max letters 1) (drop i s)
-      piece = ap (λ n. take n l) (size ∙ ap (λ r. max (prefix_len letter r) 1) is) ∙ ap (take (max letters 1)) is
+      known_at : (b : Bool) → letter (get_or s i 0) ≡ b → (t : Token) → take m (drop i s) ≡ bytes_of t → Comes s i (Ok (Some t)) (i + m)
+      known_at true begins t e =
+          let first : get_or (take m (drop i s)) 0 0 ≡ get_or s i 0 = get_or-take _ (drop i s) 0 0 (omega arith) ∙ get_or-drop i s 0 0 ∙ ap (λ k. get_or s k 0) (omega arith) in
+          let (w, is) = by_letter t (ap (λ l. letter (get_or l 0 0)) (sym e) ∙ ap letter first ∙ begins) in
+          subst (λ u. Comes s i (Ok (Some u)) (i + m)) (sym is) (word w _ (run_of begins) (part_is m ∙ e ∙ ap bytes_of is))
+      known_at false other t e =
+          let one_byte = single other in
+          subst (λ k. Comes s i (Ok (Some t)) (i + k)) (sym one_byte) (sign t on (by_byte _ t (sym one ∙ ap (λ k. take k (drop i s)) (sym one_byte) ∙ e)))
 
-      -- the word or sign with the bytes of the piece is what comes
-      piece_known : (t : Token) → take m l ≡ bytes_of t → Comes s i (Ok (Some t)) (i + m)
-      piece_known t e = subst (λ n. Comes s i (Ok (Some t)) (i + n)) (sym (size ∙ ap (λ r. max (prefix_len letter r) 1) is)) (known_at (letter (get_or s i 0)) refl t (sym piece ∙ e))
-
-      piece_strange : ((t : Token) → take m l ≢ bytes_of t) → (get_or s i 0 ≡ 32 → ⊥) → Comes s i (Err i) i
-      piece_strange none = strange_at (letter (get_or s i 0)) refl (λ t e. none t (piece ∙ e))
+      strange_at : (b : Bool) → letter (get_or s i 0) ≡ b → ((t : Token) → take m (drop i s) ≢ bytes_of t) → (get_or s i 0 ≡ 32 → ⊥) → Comes s i (Err i) i
+      strange_at true begins none full = strange_word _ (run_of begins) (λ w e. none (Name w) (sym (part_is m) ∙ e))
+      strange_at false other none full =
+          strange_byte on (record { no_letter = other; no_space = full; no_sign = λ t e. none t (ap (λ k. take k (drop i s)) (single other) ∙ one ∙ byte_of _ t e) })
 
 -- the rest of s from i on, as a range gives it
 abbrev pub rest : List ℕ → ℕ → List ℕ
@@ -327,11 +314,18 @@ module _ (s : List ℕ) (i n : ℕ) (within : i ≤ length s) (spaces : n ≡ pr
   nothing_comes off = past s i n within spaces_is (end off)
 
   module _ (on : i + n < length s) (m : ℕ) (size : m ≡ max (prefix_len letter (rest s (i + n))) 1) where
+    size_is : m ≡ max (prefix_len letter (drop (i + n) s)) 1
+    size_is = size ∙ ap (λ l. max (prefix_len letter l) 1) (rest_is s (i + n))
+
+    piece_is : take m (rest s (i + n)) ≡ take m (drop (i + n) s)
+    piece_is = ap (λ l. take m l) (rest_is s (i + n))
+
     pub known_comes : (t : Token) → take m (rest s (i + n)) ≡ bytes_of t → Comes s i (Ok (Some t)) (i + n + m)
-    known_comes t e = past s i n within spaces_is (piece_known s (i + n) on (rest s (i + n)) m (rest_is s (i + n)) size t e)
+    known_comes t e = past s i n within spaces_is (known_at s (i + n) on m size_is (letter (get_or s (i + n) 0)) refl t (sym piece_is ∙ e))
 
     pub strange_comes : ((t : Token) → take m (rest s (i + n)) ≢ bytes_of t) → Comes s i (Err (i + n)) (i + n)
-    strange_comes none = past s i n within spaces_is (piece_strange s (i + n) on (rest s (i + n)) m (rest_is s (i + n)) size none (no_space s i n spaces_is on))
+    strange_comes none =
+        past s i n within spaces_is (strange_at s (i + n) on m size_is (letter (get_or s (i + n) 0)) refl (λ t e. none t (piece_is ∙ e)) (no_space s i n spaces_is on))
 
 -- a text has one list of words
 pub tokens_unique : (s : List ℕ) {i : ℕ} {ts us : List Token} → Tokens s i ts → Tokens s i us → ts ≡ us

@@ -31,7 +31,7 @@ fn join<F: FnOnce(Box<Formula>, Box<Formula>) -> Formula>(
 
 // A text that is read, and the heap for its tree. Where memory is wanting the tree is missing,
 // and reading goes on all the same, so as to see whether the text is a formula.
-#[derive(Clone, Copy)]
+#[derive(Drop)]
 struct Reader<'a> {
     heap: Global,
     lexer: Lexer<'a>,
