@@ -1,5 +1,5 @@
 // A formula text cut into words, signs and spaces.
-ghost use Rattle.std.specs.Prelude.{◌≡◌, ℕ, ◌<◌, ◌≤◌, Bool, List, length, IfSome, IfOk, MatchBool, MatchOption, MatchResult, ◌≢◌};
+ghost use Rattle.std.specs.Prelude.{◌≡◌, ℕ, ◌<◌, ◌≤◌, Bool, List, length, OnSome, IfOk, MatchBool, MatchOption, MatchResult, ◌≢◌};
 ghost use Rattle.std.specs.List.{prefix_len};
 ghost use Rattle.formulas.specs.Items.{bytes_of, Comes, AfterSign};
 ghost use Rattle.formulas.specs.Words.{letter, FirstUnknown, Unknown, Tokens};
@@ -66,7 +66,7 @@ impl<'a> Lexer<'a> {
     // The next word or sign, if there is one; an unknown word or byte is told by its place.
     pub fn next_token(&mut self) -> Result<Option<Token>, usize>
         ensures comes { Comes self.old.text.now self.old.at result self.new.at }
-        ensures advances { IfOk result (λ token. IfSome token (λ _. self.old.at < self.new.at)) }
+        ensures advances { IfOk result (λ token. OnSome token (self.old.at < self.new.at)) }
         ensures same_text { self.new.text.now ≡ self.old.text.now }
     {
         self.at += leading(&self.text[self.at..], |byte| byte == b' ');

@@ -1,6 +1,6 @@
 // Formula texts read: a formula is terms joined by `|`, a term is factors joined by `&`,
 // and a factor is a word or a formula in brackets.
-ghost use Rattle.std.specs.Prelude.{◌≡◌, ◌<◌, List, IfSome, IfOk, MatchResult};
+ghost use Rattle.std.specs.Prelude.{◌≡◌, ◌<◌, List, OnSome, IfOk, MatchResult};
 ghost use Rattle.formulas.specs.Grammar.{formula, term, factor, Admitted, Taken, Refused, Unambiguous};
 ghost use Rattle.formulas.specs.Readers.{Finds};
 ghost use Rattle.models.specs.Refusals.{told};
@@ -41,7 +41,7 @@ impl Reader<'_> {
     #[cycle(grammar)]
     fn read_factor(&mut self) -> Option<Result<Formula, AllocError>>
         ensures finds { Finds factor self.old.lexer.text.now self.old.lexer.at result self.new.lexer.at }
-        ensures advances { IfSome result (λ _. self.old.lexer.at < self.new.lexer.at) }
+        ensures advances { OnSome result (self.old.lexer.at < self.new.lexer.at) }
         ensures same_text { self.new.lexer.text.now ≡ self.old.lexer.text.now }
     {
         match self.lexer.next_token() {
@@ -57,7 +57,7 @@ impl Reader<'_> {
     #[cycle(grammar)]
     fn read_term(&mut self) -> Option<Result<Formula, AllocError>>
         ensures finds { Finds term self.old.lexer.text.now self.old.lexer.at result self.new.lexer.at }
-        ensures advances { IfSome result (λ _. self.old.lexer.at < self.new.lexer.at) }
+        ensures advances { OnSome result (self.old.lexer.at < self.new.lexer.at) }
         ensures same_text { self.new.lexer.text.now ≡ self.old.lexer.text.now }
     {
         let first = self.read_factor()?;
@@ -71,7 +71,7 @@ impl Reader<'_> {
     #[cycle(grammar)]
     fn read_formula(&mut self) -> Option<Result<Formula, AllocError>>
         ensures finds { Finds formula self.old.lexer.text.now self.old.lexer.at result self.new.lexer.at }
-        ensures advances { IfSome result (λ _. self.old.lexer.at < self.new.lexer.at) }
+        ensures advances { OnSome result (self.old.lexer.at < self.new.lexer.at) }
         ensures same_text { self.new.lexer.text.now ≡ self.old.lexer.text.now }
     {
         let first = self.read_term()?;
