@@ -11,6 +11,7 @@ pub fn too_deep(text: &[u8]) -> bool
 {
     let mut opened: usize = 0;
     let mut closed: usize = 0;
+    // a chain would carry both counts through `scan`, and is no plainer
     for byte in text {
         match byte {
             b'(' => opened += 1,
