@@ -2,4 +2,3 @@ pub mod Grammars
 pub mod Lexing
 pub mod NamedTexts
 pub mod Readings
-pub mod Spelled

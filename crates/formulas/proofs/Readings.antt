@@ -1,19 +1,17 @@
 -- What a reader may conclude from what the readers that it called found.
-use Rattle.std.proofs.Common.{◌≡◌, ℕ, true, false, ◌⊎◌, List, [], ◌∷◌, is_some, IfOk, Some, None, Ok, Err, Option, Result, sym, refl, subst, inl, inr, ⊎_elim, arith, MatchResult}
+use Rattle.std.proofs.Common.{◌≡◌, ℕ, true, false, Bool, ◌⊎◌, List, [], ◌∷◌, IfOk, Some, None, Ok, Option, Result, sym, refl, subst, inl, inr, ⊎_elim}
+use Rattle.std.specs.Bool.{then_some}
 use Rattle.std.specs.declared.alloc.AllocError.{AllocError}
-use Rattle.formulas.specs.Grammar.{Level, formula, term, factor, Reads, one_term, more_terms, one_factor, more_factors, name, bracketed, Forms, Admitted, Taken, Refused, Unambiguous}
-use Rattle.formulas.specs.Items.{NextToken}
-use Rattle.formulas.specs.Readers.{NotFirst, Stops, Longest, Finds, AfterSign}
-use Rattle.models.specs.Refusals.{told, unnumbered}
+use Rattle.formulas.specs.Grammar.{Level, formula, term, factor, Reads, one_term, more_terms, one_factor, more_factors, name, bracketed, Forms, Admitted, Taken, Unambiguous}
+use Rattle.formulas.specs.Items.{Comes, NotFirst, AfterSign}
+use Rattle.formulas.specs.Readers.{Stops, Longest, Finds}
 use Rattle.models.specs.Trees.{Tree, word, both, either, shape}
 use Rattle.formulas.specs.Words.{Tokens}
-use Rattle.formulas.specs.declared.reader.Parsed.{Parsed}
 use Rattle.models.specs.declared.Formula.{Formula}
 use Rattle.formulas.specs.declared.token.Token.{Token}
 use Rattle.formulas.specs.declared.token.Token.TheVariants.{Name, And, Or, Open, Close}
 use Rattle.models.specs.declared.Word.{Word}
-use Rattle.models.specs.declared.Refusal.{Refusal}
-use Rattle.formulas.proofs.Lexing.{tokens_unique}
+use Rattle.formulas.proofs.Lexing.{after, first_is, first_is_not, none_left, tokens_unique}
 use Rattle.formulas.proofs.Grammars.{determined, or_no_and, close_stops, same_rest}
 
 -- an upper level of the grammar is a lower one, some of them joined by a sign
@@ -47,10 +45,7 @@ terms = record {
 pub alike : {l : Level} {ts us vs : List Token} {t u : Tree} → Longest l ts t us → Longest l ts u vs → (t ≡ u) × (us ≡ vs)
 alike h k = determined h.reads h.stops k.reads k.stops
 
-module _ {upper lower : Level} {sign : Token} {join : Tree → Tree → Tree} (j : Joined upper lower sign join) where
-  pub none_first : (s : List ℕ) (ts : List Token) → Finds lower s ts None → Finds upper s ts None
-  none_first s ts no_lower t us h = ⊎_elim (λ a. no_lower _ _ a.0) (λ b. no_lower _ _ b.3) (j.split h)
-
+module _ {upper lower : Level} {sign : Token} {join : Tree → Tree → Tree} (j : Joined upper lower sign join) (s : List ℕ) (i : ℕ) where
   no_rest : {ts us : List Token} {t : Tree} → Longest lower ts t (sign ∷ us) → ((u : Tree) (vs : List Token) → Longest upper us u vs → ⊥) → (u : Tree) (vs : List Token) → Longest upper ts u vs → ⊥
   no_rest {us = us} first no_upper u vs h =
       ⊎_elim
@@ -58,118 +53,95 @@ module _ {upper lower : Level} {sign : Token} {join : Tree → Tree → Tree} (j
       (λ b. no_upper _ _ (subst (λ (x : List Token). Longest upper x b.1 vs) (sym (same_rest (alike first b.3).1)) b.4))
       (j.split h)
 
-  pub none_rest : (s : List ℕ) (ts : List Token) (p : Parsed) (k : ℕ) → Finds lower s ts (Some p) → ((us : List Token) → Tokens s p.next us → AfterSign s sign us (Some k)) → ((us : List Token) → Tokens s k us → Finds upper s us None) → Finds upper s ts None
-  none_rest s ts p k (t, us, first, rest, tree) sign_next no_upper =
-      let (vs, e, next) = sign_next us rest in
-      no_rest (subst (λ (x : List Token). Longest lower ts t x) e first) (no_upper vs next)
+  module _ (p : Result Formula AllocError) (m : ℕ) (first : Finds lower s i (Some p) m) where
+    pub found_one : (n : ℕ) → n ≡ m → AfterSign s m sign false n → Finds upper s i (Some p) n
+    found_one n same stop ts all =
+        let (t, us, longest, rest, tree) = first ts all in
+        (t, us, j.one longest (stop us rest), subst (λ (k : ℕ). Tokens s k us) (sym same) rest, tree)
 
-  pub found_one : (s : List ℕ) (ts : List Token) (p : Parsed) → Finds lower s ts (Some p) → ((us : List Token) → Tokens s p.next us → AfterSign s sign us None) → Finds upper s ts (Some p)
-  found_one s ts p (t, us, first, rest, tree) stop = (t, us, j.one first (stop us rest), rest, tree)
+    pub none_rest : (n k l : ℕ) → AfterSign s m sign true n → Finds upper s n None k → Finds upper s i None l
+    none_rest n k l after no_upper ts all =
+        let (t, us, longest, rest, tree) = first ts all in
+        let (vs, e, next) = after us rest in
+        no_rest (subst (λ (x : List Token). Longest lower ts t x) e longest) (no_upper vs next)
 
-  pub found_more : (s : List ℕ) (ts : List Token) (p q : Parsed) (k : ℕ) (r : Result Formula AllocError) → Finds lower s ts (Some p) → ((us : List Token) → Tokens s p.next us → AfterSign s sign us (Some k)) → ((us : List Token) → Tokens s k us → Finds upper s us (Some q)) → ((t u : Tree) → IfOk p.tree (λ f. shape f ≡ t) → IfOk q.tree (λ f. shape f ≡ u) → IfOk r (λ f. shape f ≡ join t u)) → Finds upper s ts (Some (record { tree = r; next = q.next }))
-  found_more s ts p q k r (t, us, first, rest, tree) sign_next upper_next both_made =
-      let (vs, e, next) = sign_next us rest in
-      let (u, ws, second, left, other) = upper_next vs next in
-      (join t u, ws, j.more (subst (λ (x : List Token). Longest lower ts t x) e first) second, left, both_made t u tree other)
+    pub found_more : (n k : ℕ) (q r : Result Formula AllocError) → AfterSign s m sign true n → Finds upper s n (Some q) k → ((t u : Tree) → IfOk p (λ f. shape f ≡ t) → IfOk q (λ f. shape f ≡ u) → IfOk r (λ f. shape f ≡ join t u)) → Finds upper s i (Some r) k
+    found_more n k q r after second joined ts all =
+        let (t, us, longest, rest, tree) = first ts all in
+        let (vs, e, next) = after us rest in
+        let (u, ws, others, left, other) = second vs next in
+        (join t u, ws, j.more (subst (λ (x : List Token). Longest lower ts t x) e longest) others, left, joined t u tree other)
 
 factor_reads : {ts us : List Token} {t : Tree} → Reads factor ts t us → ((w : Word) × (ts ≡ Name w ∷ us)) ⊎ ((vs : List Token) × (ts ≡ Open ∷ vs) × Reads formula vs t (Close ∷ us))
 factor_reads (name {w = w}) = inl (w, refl)
 factor_reads (bracketed r) = inr (_, refl, r)
 
 -- a factor is a word, or begins with a bracket
-no_factor : (s : List ℕ) (ts : List Token) → ((w : Word) (us : List Token) → ts ≡ Name w ∷ us → ⊥) → ((vs : List Token) → ts ≡ Open ∷ vs → (t : Tree) (us : List Token) → Longest formula vs t (Close ∷ us) → ⊥) → Finds factor s ts None
-no_factor s ts no_name no_bracket t us h =
+no_factor : {ts : List Token} → ((w : Word) (us : List Token) → ts ≡ Name w ∷ us → ⊥) → ((vs : List Token) → ts ≡ Open ∷ vs → (t : Tree) (us : List Token) → Longest formula vs t (Close ∷ us) → ⊥) → (t : Tree) (us : List Token) → Longest factor ts t us → ⊥
+no_factor no_name no_bracket t us h =
     ⊎_elim
     (λ a. no_name a.0 us a.1)
     (λ b. no_bracket b.0 b.1 t us (record { reads = b.2; stops = close_stops us }))
     (factor_reads h.reads)
 
-clash : {X : Type 0} → ◌≡◌ {A = ℕ} 0 1 → X
-clash e = absurd (omega arith)
+-- nothing that a factor may begin with comes
+pub none_comes : {s : List ℕ} {i : ℕ} {o : Result (Option Token) ℕ} {j : ℕ} → Comes s i o j → ((w : Word) → o ≡ Ok (Some (Name w)) → ⊥) → (o ≡ Ok (Some Open) → ⊥) → (k : ℕ) → Finds factor s i None k
+none_comes c no_name no_open k ts all =
+    no_factor (λ w us e. first_is_not c (Name w) (no_name w) ts all us e) (λ vs e t us h. first_is_not c Open no_open ts all vs e)
 
-pub none_empty : (s : List ℕ) (ts : List Token) → ts ≡ [] → Finds factor s ts None
-none_empty s ts e =
-    no_factor s ts
-    (λ w us f. let z : ◌≡◌ {A = ℕ} 0 1 = cc in clash z)
-    (λ vs f t us h. let z : ◌≡◌ {A = ℕ} 0 1 = cc in clash z)
+pub found_name : {s : List ℕ} {i : ℕ} {o : Result (Option Token) ℕ} {j : ℕ} (w : Word) → o ≡ Ok (Some (Name w)) → Comes s i o j → (ts : List Token) → Tokens s i ts → (t : Tree) × (us : List Token) × (Longest factor ts t us) × (Tokens s j us) × (word w ≡ t)
+found_name w is c ts all =
+    let (us, begins, rest) = first_is c (Name w) is ts all in
+    (word w, us, record { reads = subst (λ (x : List Token). Reads factor x (word w) us) (sym begins) name; stops = tt }, rest, refl)
 
--- t is what the words ts begin with, and j is where the others begin
-abbrev Next : List ℕ → List Token → Token → ℕ → Type 0
-Next s ts t j = (us : List Token) × (ts ≡ t ∷ us) × (Tokens s j us)
+-- an opening bracket comes, and the others begin at j
+module _ {s : List ℕ} {i j : ℕ} {o : Result (Option Token) ℕ} (c : Comes s i o j) (is : o ≡ Ok (Some Open)) where
+  no_bracketed : (ts : List Token) → Tokens s i ts → ((vs : List Token) → Tokens s j vs → (t : Tree) (us : List Token) → Longest formula vs t (Close ∷ us) → ⊥) → (t : Tree) (us : List Token) → Longest factor ts t us → ⊥
+  no_bracketed ts all none =
+      let (us, begins, rest) = first_is c Open is ts all in
+      no_factor
+      (λ w vs f. cc)
+      (λ vs f t ws h. let same : us ≡ vs = cc in none vs (subst (λ (x : List Token). Tokens s j x) same rest) t ws h)
 
-module _ (s : List ℕ) (ts : List Token) (first : Token) where
-  pub none_other : (j : ℕ) → Next s ts first j → ((w : Word) → first ≡ Name w → ⊥) → (first ≡ Open → ⊥) → Finds factor s ts None
-  none_other j (us, e, rest) no_name no_open =
-      no_factor s ts (λ w vs f. no_name w (cc)) (λ vs f t ws h. no_open (cc))
+  pub none_inside : (m k : ℕ) → Finds formula s j None m → Finds factor s i None k
+  none_inside m k none ts all = no_bracketed ts all (λ vs rest t us. none vs rest t (Close ∷ us))
 
-  pub found_name : (w : Word) → first ≡ Name w → (j : ℕ) → Next s ts first j → (t : Tree) × (us : List Token) × (Longest factor ts t us) × (Tokens s j us) × (word w ≡ t)
-  found_name w is j (us, e, rest) =
-      let begins : ts ≡ Name w ∷ us = cc in
-      (word w, us, record { reads = subst (λ (x : List Token). Reads factor x (word w) us) (sym begins) name; stops = tt }, rest, refl)
-
-  module _ (is : first ≡ Open) (j : ℕ) (next : Next s ts first j) where
-    no_bracketed : ((t : Tree) (us : List Token) → Longest formula next.0 t (Close ∷ us) → ⊥) → Finds factor s ts None
-    no_bracketed none =
-        let e = next.1 in
-        no_factor s ts
-        (λ w us f. let z : ◌≡◌ {A = ℕ} 0 1 = cc in clash z)
-        (λ vs f t us h. let same : vs ≡ next.0 = cc in none t us (subst (λ (x : List Token). Longest formula x t (Close ∷ us)) same h))
-
-    pub none_inside : ((us : List Token) → Tokens s j us → Finds formula s us None) → Finds factor s ts None
-    none_inside none = no_bracketed (λ t us. none next.0 next.2 t (Close ∷ us))
-
-    pub none_closed : (p : Parsed) → ((us : List Token) → Tokens s j us → Finds formula s us (Some p)) → ((us : List Token) → Tokens s p.next us → AfterSign s Close us None) → Finds factor s ts None
-    none_closed p inside open_end =
-        let (t, us, inner, left, tree) = inside next.0 next.2 in
-        no_bracketed (λ u vs h. open_end us left vs (alike inner h).1)
-
-    pub found_bracketed : (p : Parsed) (k : ℕ) → ((us : List Token) → Tokens s j us → Finds formula s us (Some p)) → ((us : List Token) → Tokens s p.next us → AfterSign s Close us (Some k)) → Finds factor s ts (Some (record { tree = p.tree; next = k }))
-    found_bracketed p k inside closing =
-        let (t, us, inner, left, tree) = inside next.0 next.2 in
-        let (vs, closed, rest) = closing us left in
-        let e = next.1 in
-        let begins : ts ≡ Open ∷ next.0 = cc in (
+  module _ (p : Result Formula AllocError) (m : ℕ) (inside : Finds formula s j (Some p) m) where
+    pub closed : (n : ℕ) (b : Bool) → AfterSign s m Close b n → Finds factor s i (then_some b p) n
+    closed n false open_end = λ ts all.
+        no_bracketed ts all (λ vs rest u us h. let (t, ws, inner, left, tree) = inside vs rest in open_end ws left us (alike inner h).1)
+    closed n true closing = λ ts all.
+        let (us, begins, rest) = first_is c Open is ts all in
+        let (t, ws, inner, left, tree) = inside us rest in
+        let (vs, closed, others) = closing ws left in (
           t,
           vs,
-          record { reads = subst (λ (x : List Token). Reads factor x t vs) (sym begins) (bracketed (subst (λ (x : List Token). Reads formula next.0 t x) closed inner.reads)); stops = tt },
-          rest,
+          record { reads = subst (λ (x : List Token). Reads factor x t vs) (sym begins) (bracketed (subst (λ (x : List Token). Reads formula us t x) closed inner.reads)); stops = tt },
+          others,
           tree,
         )
 
 nothing_stops : Stops formula []
-nothing_stops = (λ vs e. let z : ◌≡◌ {A = ℕ} 0 1 = cc in clash z, λ vs e. let z : ◌≡◌ {A = ℕ} 0 1 = cc in clash z)
+nothing_stops = (λ vs e. cc, λ vs e. cc)
 
--- nothing is left of the words where there is no next one
-pub no_next : (s : List ℕ) (o : Option (Token × ℕ)) (us : List Token) → false ≡ is_some o → NextToken s o us → us ≡ []
-no_next s None us e none = none
-no_next s (Some p) us e next = let z : ◌≡◌ {A = ℕ} 0 1 = cc in clash z
+-- a formula's words, all of a text's, are the longest formula that they begin with
+whole : {s : List ℕ} {ts : List Token} {t : Tree} → Tokens s 0 ts → Forms s t → Longest formula ts t []
+whole {ts = ts} {t = t} all (us, same, reads) = record { reads = subst (λ (x : List Token). Reads formula x t []) (tokens_unique _ same all) reads; stops = nothing_stops }
 
-pub some_next : (s : List ℕ) (o : Option (Token × ℕ)) (us : List Token) → true ≡ is_some o → NextToken s o us → us ≡ [] → ⊥
-some_next s None us e none f = let z : ◌≡◌ {A = ℕ} 0 1 = cc in clash z
-some_next s (Some p) us e (vs, begins, rest) f = let z : ◌≡◌ {A = ℕ} 0 1 = cc in clash z
-
--- what was read of a whole text
-module _ (s : List ℕ) (ts : List Token) (all : Tokens s 0 ts) (p : Parsed) (found : Finds formula s ts (Some p)) where
-  -- a formula's words, all of them, are what was read
-  whole : {t : Tree} → Forms s t → Longest formula ts t []
-  whole {t} (us, same, reads) = record { reads = subst (λ (x : List Token). Reads formula x t []) (tokens_unique s same all) reads; stops = nothing_stops }
-
-  pub left_over : ((us : List Token) → Tokens s p.next us → us ≡ [] → ⊥) → (t : Tree) → Forms s t → ⊥
+module _ {s : List ℕ} {ts : List Token} (all : Tokens s 0 ts) (p : Result Formula AllocError) (j : ℕ) (read : Finds formula s 0 (Some p) j) (o : Result (Option Token) ℕ) (k : ℕ) (c : Comes s j o k) where
+  pub left_over : (o ≡ Ok None → ⊥) → (t : Tree) → Forms s t → ⊥
   left_over more t forms =
-      let (u, us, longest, left, tree) = found in
-      more us left (alike longest (whole forms)).1
+      let (u, us, longest, left, tree) = read ts all in
+      let none : us ≡ [] = (alike longest (whole all forms)).1 in
+      more (none_left c (subst (λ (x : List Token). Tokens s j x) none left))
 
-  pub taken : Admitted s → ((us : List Token) → Tokens s p.next us → us ≡ []) → (t : Tree) × (Taken s t) × IfOk p.tree (λ f. shape f ≡ t)
+  pub taken : Admitted s → o ≡ Ok None → (t : Tree) × (Taken s t) × IfOk p (λ f. shape f ≡ t)
   taken admitted none =
-      let (t, us, longest, left, tree) = found in (
+      let (t, us, longest, left, tree) = read ts all in (
         t,
-        record { admitted = admitted; forms = (ts, all, subst (λ (x : List Token). Reads formula ts t x) (none us left) longest.reads) },
+        record { admitted = admitted; forms = (ts, all, subst (λ (x : List Token). Reads formula ts t x) (after (subst (λ x. Comes s j x k) none c) left) longest.reads) },
         tree,
       )
-
-pub finished : (s : List ℕ) (r : Result Formula Refusal) (t : Tree) → Taken s t → MatchResult r (λ f. shape f ≡ t) (λ e. told e ≡ unnumbered) → MatchResult r (λ f. Taken s (shape f)) (λ e. Refused s (told e))
-finished s (Ok f) t here e = subst (Taken s) (sym e) here
-finished s (Err x) t here e = subst (Refused s) (sym e) (t, here)
 
 pub single : (s : List ℕ) → Unambiguous s
 single s t u (ts, all, reads) (us, same, others) =

@@ -1,26 +1,31 @@
--- What stands at one place of a formula text.
-use Rattle.std.specs.Prelude.{◌≡◌, ℕ, ◌+◌, ◌<◌, ◌≤◌, List, [], ◌∷◌, length, Some, None, Option, ◌≢◌, slice_index, slice_index_or}
+-- What comes next in a formula text.
+use Rattle.std.specs.Prelude.{◌≡◌, ℕ, ◌+◌, ◌<◌, ◌≤◌, Bool, true, false, List, [], ◌∷◌, length, Some, None, Option, Ok, Err, Result, ◌≢◌, slice_index}
 use Rattle.formulas.specs.Words.{spelling, sign_byte, part, Run, Strange, Tokens}
-use Rattle.formulas.specs.declared.lexer.Item.{Item}
-use Rattle.formulas.specs.declared.lexer.Item.TheVariants.{Space, Known, Unknown as Stranger}
 use Rattle.formulas.specs.declared.token.Token.{Token}
-use Rattle.formulas.specs.declared.token.Token.TheVariants.{Name}
+use Rattle.formulas.specs.declared.token.Token.TheVariants.{Name, And, Or, Open, Close}
 use Rattle.models.specs.declared.Word.{Word}
 
--- what begins at i ends just before j
-pub data ItemAt (s : List ℕ) (i : ℕ) : Item → ℕ → Type 0 where
-  space : slice_index_or s i 0 ≡ 32 → ItemAt s i Space (i + 1)
-  sign : (t : Token) → sign_byte t ≡ Some (slice_index s i) → ItemAt s i (Known t) (i + 1)
-  word : (w : Word) (j : ℕ) → Run s i j → part s i j ≡ spelling w → ItemAt s i (Known (Name w)) j
-  strange_byte : Strange (slice_index s i) → ItemAt s i Stranger (i + 1)
-  strange_word : (j : ℕ) → Run s i j → ((w : Word) → part s i j ≢ spelling w) → ItemAt s i Stranger j
+abbrev pub bytes_of : Token → List ℕ
+bytes_of (Name w) = spelling w
+bytes_of And = 38 ∷ []
+bytes_of Or = 124 ∷ []
+bytes_of Open = 40 ∷ []
+bytes_of Close = 41 ∷ []
 
--- the next word or sign, where the words ts come next: the first of them, and where the others begin
-abbrev pub NextToken : List ℕ → Option (Token × ℕ) → List Token → Type 0
-NextToken s None ts = ts ≡ []
-NextToken s (Some p) ts = (us : List Token) × (ts ≡ p.0 ∷ us) × (Tokens s p.1 us)
+-- from i on, past any spaces, comes a word or sign that ends just before j, or no more, or something unknown, told by its place
+pub data Comes (s : List ℕ) : ℕ → Result (Option Token) ℕ → ℕ → Type 0 where
+  end : {i : ℕ} → length s ≤ i → Comes s i (Ok None) i
+  space : {i : ℕ} {r : Result (Option Token) ℕ} {j : ℕ} → i < length s → slice_index s i ≡ 32 → Comes s (i + 1) r j → Comes s i r j
+  sign : {i : ℕ} (t : Token) → i < length s → sign_byte t ≡ Some (slice_index s i) → Comes s i (Ok (Some t)) (i + 1)
+  word : {i : ℕ} (w : Word) (j : ℕ) → Run s i j → part s i j ≡ spelling w → Comes s i (Ok (Some (Name w))) j
+  strange_byte : {i : ℕ} → i < length s → Strange (slice_index s i) → Comes s i (Err i) i
+  strange_word : {i : ℕ} (j : ℕ) → Run s i j → ((w : Word) → part s i j ≢ spelling w) → Comes s i (Err i) i
 
--- how far the next word or sign brings a reader
-abbrev pub Further : List ℕ → ℕ → Option (Token × ℕ) → Type 0
-Further s i None = Unit {0}
-Further s i (Some p) = (i < p.1) × (p.1 ≤ length s)
+-- the words ts do not begin with the sign t
+abbrev pub NotFirst : Token → List Token → Type 0
+NotFirst t ts = (us : List Token) → ts ≢ t ∷ us
+
+-- whether the words from i on begin with the sign t; if so, the others begin at j
+abbrev pub AfterSign : List ℕ → ℕ → Token → Bool → ℕ → Type 0
+AfterSign s i t false j = (ts : List Token) → Tokens s i ts → NotFirst t ts
+AfterSign s i t true j = (ts : List Token) → Tokens s i ts → (us : List Token) × (ts ≡ t ∷ us) × (Tokens s j us)

@@ -1,112 +1,109 @@
 // A formula text cut into words, signs and spaces.
-ghost use Rattle.std.specs.Prelude.{◌≡◌, ℕ, ◌+◌, ◌<◌, ◌≤◌, true, List, length, MatchOption, ◌≢◌, slice_index};
-ghost use Rattle.formulas.specs.Items.{ItemAt, NextToken, Further};
-ghost use Rattle.formulas.specs.Words.{letter, spelling, Run, Unknown, FirstUnknown, Tokens};
+ghost use Rattle.std.specs.Prelude.{◌≡◌, ℕ, ◌<◌, ◌≤◌, Bool, List, length, OnSome, IfOk, MatchBool, MatchOption, MatchResult, ◌≢◌};
+ghost use Rattle.std.specs.List.{prefix_len};
+ghost use Rattle.formulas.specs.Items.{bytes_of, Comes, AfterSign};
+ghost use Rattle.formulas.specs.Words.{letter, FirstUnknown, Unknown, Tokens};
 ghost use Rattle.formulas.specs.declared.token.Token.{Token};
-ghost use Rattle.models.specs.declared.Word.{Word};
 
 use crate::token::Token;
 use models::Word;
 
-// What stands at one place of a text.
-#[derive(Clone, Copy)]
-pub enum Item {
-    Space,
-    Known(Token),
-    Unknown,
-}
-
 fn is_letter(byte: u8) -> bool
     ensures { result ≡ letter byte }
 {
-    byte.is_ascii_alphabetic() | (byte == b'.')
+    byte.is_ascii_alphabetic() || byte == b'.'
 }
 
-// Where the run of letters that begins at `at` ends.
-fn word_end(text: &[u8], at: usize) -> usize
-    requires within { at < length text.now }
-    requires begins { letter (slice_index text.now at) ≡ true }
-    ensures { Run text.now at result }
+// How many bytes from the front on pass the test.
+fn leading<F: Fn(u8) -> bool>(bytes: &[u8], test: F) -> usize
+    requires { F.IsAlwaysCallable test }
+    ensures within { result ≤ length bytes.now }
+    ensures counted { (p : ℕ → Bool) → ((b : ℕ) (r : Bool) → F.post test b r → r ≡ p b) → result ≡ prefix_len p bytes.now }
 {
-    let mut end = at + 1;
-    while end < text.len() && is_letter(text[end]) {
-        end += 1;
-    }
-    end
+    bytes.iter().take_while(|byte| test(**byte)).count()
 }
 
-// The word with these letters.
-fn known_word(letters: &[u8]) -> Option<Word>
-    ensures { MatchOption result ((w : Word) → letters.now ≢ spelling w) (λ w. letters.now ≡ spelling w) }
+// The word or sign with these bytes.
+fn known(bytes: &[u8]) -> Option<Token>
+    ensures { MatchOption result ((t : Token) → bytes.now ≢ bytes_of t) (λ t. bytes.now ≡ bytes_of t) }
 {
-    match letters {
-        b"true" => Some(Word::True),
-        b"Read.x" => Some(Word::ReadX),
-        b"Read.y" => Some(Word::ReadY),
-        b"Write.x" => Some(Word::WriteX),
-        b"Write.y" => Some(Word::WriteY),
-        b"Fence.x" => Some(Word::FenceX),
-        b"Fence.y" => Some(Word::FenceY),
-        b"SameAddr" => Some(Word::SameAddr),
-        b"DataDep" => Some(Word::DataDep),
-        b"ControlDep" => Some(Word::ControlDep),
-        _ => None,
-    }
-}
-
-// What stands at `at`, and where it ends.
-fn item_at(text: &[u8], at: usize) -> (Item, usize)
-    requires { at < length text.now }
-    ensures stands { ItemAt text.now at result.0 result.1 }
-    ensures within { (at < result.1) × (result.1 ≤ length text.now) }
-{
-    let byte = text[at];
-    if is_letter(byte) {
-        let end = word_end(text, at);
-        return match known_word(&text[at..end]) {
-            Some(word) => (Item::Known(Token::Name(word)), end),
-            None => (Item::Unknown, end),
-        };
-    }
-    let item = match byte {
-        b' ' => Item::Space,
-        b'&' => Item::Known(Token::And),
-        b'|' => Item::Known(Token::Or),
-        b'(' => Item::Known(Token::Open),
-        b')' => Item::Known(Token::Close),
-        _ => Item::Unknown,
+    let token = match bytes {
+        b"&" => Token::And,
+        b"|" => Token::Or,
+        b"(" => Token::Open,
+        b")" => Token::Close,
+        b"true" => Token::Name(Word::True),
+        b"Read.x" => Token::Name(Word::ReadX),
+        b"Read.y" => Token::Name(Word::ReadY),
+        b"Write.x" => Token::Name(Word::WriteX),
+        b"Write.y" => Token::Name(Word::WriteY),
+        b"Fence.x" => Token::Name(Word::FenceX),
+        b"Fence.y" => Token::Name(Word::FenceY),
+        b"SameAddr" => Token::Name(Word::SameAddr),
+        b"DataDep" => Token::Name(Word::DataDep),
+        b"ControlDep" => Token::Name(Word::ControlDep),
+        _ => return None,
     };
-    (item, at + 1)
+    Some(token)
 }
 
-// The place of the first unknown word or byte. Where there is none, the text is words, signs and spaces.
-pub fn first_unknown(text: &[u8]) -> Option<usize>
-    ensures { MatchOption result (((p : ℕ) → Unknown text.now p → ⊥) × ((ts : List Token) × Tokens text.now 0 ts)) (λ p. FirstUnknown text.now p) }
-{
-    let mut at = 0;
-    while at < text.len() {
-        let (item, next) = item_at(text, at);
-        if let Item::Unknown = item {
-            return Some(at);
-        }
-        at = next;
-    }
-    None
+// A text, and how far its words and signs have been read.
+#[derive(Clone, Copy)]
+pub struct Lexer<'a> {
+    text: &'a [u8],
+    at: usize,
+    ghost within: { at ≤ length text.now },
 }
 
-// The next word or sign from `at` on, and where it ends.
-pub fn next_token(text: &[u8], at: usize) -> Option<(Token, usize)>
-    ensures next { (ts : List Token) → Tokens text.now at ts → NextToken text.now result ts }
-    ensures further { Further text.now at result }
-{
-    let mut at = at;
-    while at < text.len() {
-        let (item, next) = item_at(text, at);
-        match item {
-            Item::Space => at = next,
-            Item::Known(token) => return Some((token, next)),
-            Item::Unknown => return None,
+impl<'a> Lexer<'a> {
+    pub fn new(text: &'a [u8]) -> Lexer<'a>
+        ensures text { result.text.now ≡ text.now }
+        ensures at { result.at ≡ 0 }
+    {
+        Lexer { text, at: 0 }
+    }
+
+    // The next word or sign, if there is one; an unknown word or byte is told by its place.
+    pub fn next_token(&mut self) -> Result<Option<Token>, usize>
+        ensures comes { Comes self.old.text.now self.old.at result self.new.at }
+        ensures advances { IfOk result (λ token. OnSome token (self.old.at < self.new.at)) }
+        ensures same_text { self.new.text.now ≡ self.old.text.now }
+    {
+        self.at += leading(&self.text[self.at..], |byte| byte == b' ');
+        let rest = &self.text[self.at..];
+        if rest.is_empty() {
+            return Ok(None);
+        }
+        let size = leading(rest, is_letter).max(1);
+        let Some(token) = known(&rest[..size]) else {
+            return Err(self.at);
+        };
+        self.at += size;
+        Ok(Some(token))
+    }
+
+    // Steps over the next word or sign if it is this one.
+    pub fn step_over(&mut self, sign: Token) -> bool
+        ensures taken { AfterSign self.old.text.now self.old.at sign result self.new.at }
+        ensures advances { MatchBool result (self.old.at < self.new.at) (self.new.at ≡ self.old.at) }
+        ensures same_text { self.new.text.now ≡ self.old.text.now }
+    {
+        let mut ahead = *self;
+        match ahead.next_token() {
+            Ok(Some(token)) if token == sign => {
+                *self = ahead;
+                true
+            }
+            _ => false,
         }
     }
-    None
+}
+
+// The place of the first unknown word or byte, if there is one.
+pub fn check_words(text: &[u8]) -> Result<(), usize>
+    ensures { MatchResult result (λ _. ((p : ℕ) → Unknown text.now p → ⊥) × ((ts : List Token) × Tokens text.now 0 ts)) (λ p. FirstUnknown text.now p) }
+{
+    let mut lexer = Lexer::new(text);
+    while lexer.next_token()?.is_some() {}
+    Ok(())
 }

@@ -1,122 +1,85 @@
 // Formula texts read: a formula is terms joined by `|`, a term is factors joined by `&`,
 // and a factor is a word or a formula in brackets.
-ghost use Rattle.std.specs.Prelude.{◌≡◌, ◌<◌, ◌≤◌, List, length, IfSome, IfOk, MatchResult};
+ghost use Rattle.std.specs.Prelude.{◌≡◌, ◌<◌, List, OnSome, IfOk, MatchResult};
 ghost use Rattle.formulas.specs.Grammar.{formula, term, factor, Admitted, Taken, Refused, Unambiguous};
-ghost use Rattle.formulas.specs.Readers.{Finds, Advances, AfterSign};
-ghost use Rattle.models.specs.Refusals.{told, unnumbered};
-ghost use Rattle.models.specs.Trees.{Tree, both, either, shape};
+ghost use Rattle.formulas.specs.Readers.{Finds};
+ghost use Rattle.models.specs.Refusals.{told};
+ghost use Rattle.models.specs.Trees.{Tree, shape};
 ghost use Rattle.formulas.specs.Words.{Tokens};
 ghost use Rattle.formulas.specs.declared.token.Token.{Token};
 
 use crate::depth::too_deep;
-use crate::lexer::{first_unknown, next_token};
+use crate::lexer::{Lexer, check_words};
 use crate::token::Token;
 use models::{Formula, Refusal};
 use std::alloc::{AllocError, Global};
 
-// A tree that was read, and where the text goes on. Where memory was wanting the tree is missing,
+// Two trees made one.
+fn join<F: FnOnce(Box<Formula>, Box<Formula>) -> Formula>(
+    heap: Global,
+    pair: F,
+    left: Result<Formula, AllocError>,
+    right: Result<Formula, AllocError>,
+) -> Result<Formula, AllocError>
+    requires { F.IsAlwaysCallable pair }
+    ensures { (t u : Tree) (join : Tree → Tree → Tree) → IfOk left (λ f. shape f ≡ t) → IfOk right (λ f. shape f ≡ u)
+        → ((l r : _) (f : _) → F.post pair l r f → shape f ≡ join (shape l.value) (shape r.value))
+        → IfOk result (λ f. shape f ≡ join t u) }
+{
+    Ok(pair(Box::new(heap, left?)?, Box::new(heap, right?)?))
+}
+
+// A text that is read, and the heap for its tree. Where memory is wanting the tree is missing,
 // and reading goes on all the same, so as to see whether the text is a formula.
 #[derive(Drop)]
-pub struct Parsed {
-    tree: Result<Formula, AllocError>,
-    next: usize,
-}
-
-// Two trees joined by `&`.
-fn join_both(
+struct Reader<'a> {
     heap: Global,
-    left: Result<Formula, AllocError>,
-    right: Result<Formula, AllocError>,
-) -> Result<Formula, AllocError>
-    ensures { (t u : Tree) → IfOk left (λ f. shape f ≡ t) → IfOk right (λ f. shape f ≡ u) → IfOk result (λ f. shape f ≡ both t u) }
-{
-    let left = Box::new(heap, left?)?;
-    let right = Box::new(heap, right?)?;
-    Ok(Formula::Both(left, right))
+    lexer: Lexer<'a>,
 }
 
-// Two trees joined by `|`.
-fn join_either(
-    heap: Global,
-    left: Result<Formula, AllocError>,
-    right: Result<Formula, AllocError>,
-) -> Result<Formula, AllocError>
-    ensures { (t u : Tree) → IfOk left (λ f. shape f ≡ t) → IfOk right (λ f. shape f ≡ u) → IfOk result (λ f. shape f ≡ either t u) }
-{
-    let left = Box::new(heap, left?)?;
-    let right = Box::new(heap, right?)?;
-    Ok(Formula::Either(left, right))
-}
-
-// Where the text goes on after a sign, if that is what comes next.
-fn after_sign(text: &[u8], at: usize, sign: Token) -> Option<usize>
-    ensures found { (ts : List Token) → Tokens text.now at ts → AfterSign text.now sign ts result }
-    ensures further { IfSome result (λ next. (at < next) × (next ≤ length text.now)) }
-{
-    match next_token(text, at) {
-        Some((token, next)) => { if token == sign { Some(next) } else { None } }
-        None => None,
+impl Reader<'_> {
+    #[cycle(grammar)]
+    fn read_factor(&mut self) -> Option<Result<Formula, AllocError>>
+        ensures finds { Finds factor self.old.lexer.text.now self.old.lexer.at result self.new.lexer.at }
+        ensures advances { OnSome result (self.old.lexer.at < self.new.lexer.at) }
+        ensures same_text { self.new.lexer.text.now ≡ self.old.lexer.text.now }
+    {
+        match self.lexer.next_token() {
+            Ok(Some(Token::Name(word))) => Some(Ok(Formula::Word(word))),
+            Ok(Some(Token::Open)) => {
+                let inner = self.read_formula()?;
+                self.lexer.step_over(Token::Close).then_some(inner)
+            }
+            _ => None,
+        }
     }
-}
 
-#[cycle(read_factor_read_formula_read_term)]
-fn read_factor(heap: Global, text: &[u8], at: usize) -> Option<Parsed>
-    ensures finds { (ts : List Token) → Tokens text.now at ts → Finds factor text.now ts result }
-    ensures advances { Advances text.now at result }
-{
-    let (token, next) = next_token(text, at)?;
-    match token {
-        Token::Name(word) => {
-            let tree = Ok(Formula::Word(word));
-            Some(Parsed { tree, next })
+    #[cycle(grammar)]
+    fn read_term(&mut self) -> Option<Result<Formula, AllocError>>
+        ensures finds { Finds term self.old.lexer.text.now self.old.lexer.at result self.new.lexer.at }
+        ensures advances { OnSome result (self.old.lexer.at < self.new.lexer.at) }
+        ensures same_text { self.new.lexer.text.now ≡ self.old.lexer.text.now }
+    {
+        let first = self.read_factor()?;
+        if !self.lexer.step_over(Token::And) {
+            return Some(first);
         }
-        Token::Open => {
-            let inner = read_formula(heap, text, next)?;
-            let next = after_sign(text, inner.next, Token::Close)?;
-            Some(Parsed {
-                tree: inner.tree,
-                next,
-            })
-        }
-        _ => None,
+        let rest = self.read_term()?;
+        Some(join(self.heap, Formula::Both, first, rest))
     }
-}
 
-#[cycle(read_factor_read_formula_read_term)]
-fn read_term(heap: Global, text: &[u8], at: usize) -> Option<Parsed>
-    ensures finds { (ts : List Token) → Tokens text.now at ts → Finds term text.now ts result }
-    ensures advances { Advances text.now at result }
-{
-    let first = read_factor(heap, text, at)?;
-    match after_sign(text, first.next, Token::And) {
-        Some(after) => {
-            let rest = read_term(heap, text, after)?;
-            let tree = join_both(heap, first.tree, rest.tree);
-            Some(Parsed {
-                tree,
-                next: rest.next,
-            })
+    #[cycle(grammar)]
+    fn read_formula(&mut self) -> Option<Result<Formula, AllocError>>
+        ensures finds { Finds formula self.old.lexer.text.now self.old.lexer.at result self.new.lexer.at }
+        ensures advances { OnSome result (self.old.lexer.at < self.new.lexer.at) }
+        ensures same_text { self.new.lexer.text.now ≡ self.old.lexer.text.now }
+    {
+        let first = self.read_term()?;
+        if !self.lexer.step_over(Token::Or) {
+            return Some(first);
         }
-        None => Some(first),
-    }
-}
-
-#[cycle(read_factor_read_formula_read_term)]
-fn read_formula(heap: Global, text: &[u8], at: usize) -> Option<Parsed>
-    ensures finds { (ts : List Token) → Tokens text.now at ts → Finds formula text.now ts result }
-    ensures advances { Advances text.now at result }
-{
-    let first = read_term(heap, text, at)?;
-    match after_sign(text, first.next, Token::Or) {
-        Some(after) => {
-            let rest = read_formula(heap, text, after)?;
-            let tree = join_either(heap, first.tree, rest.tree);
-            Some(Parsed {
-                tree,
-                next: rest.next,
-            })
-        }
-        None => Some(first),
+        let rest = self.read_formula()?;
+        Some(join(self.heap, Formula::Either, first, rest))
     }
 }
 
@@ -130,23 +93,11 @@ fn screen(text: &[u8]) -> Result<(), Refusal>
     if text.len() > LONGEST {
         return Err(Refusal::FormulaTooLong);
     }
-    if let Some(place) = first_unknown(text) {
-        return Err(Refusal::UnknownWord(place));
-    }
+    check_words(text).map_err(Refusal::UnknownWord)?;
     if too_deep(text) {
         return Err(Refusal::TooDeep);
     }
     Ok(())
-}
-
-// The tree that was read, or that memory was wanting.
-fn finish(tree: Result<Formula, AllocError>) -> Result<Formula, Refusal>
-    ensures { (t : Tree) → IfOk tree (λ f. shape f ≡ t) → MatchResult result (λ f. shape f ≡ t) (λ e. told e ≡ unnumbered) }
-{
-    match tree {
-        Ok(tree) => Ok(tree),
-        Err(_) => Err(Refusal::OutOfMemory),
-    }
 }
 
 // Reads a formula text. The first refusal that applies is the answer, of these in this order: the length,
@@ -156,11 +107,13 @@ pub fn parse(heap: Global, text: &[u8]) -> Result<Formula, Refusal>
     ensures single { Unambiguous text.now }
 {
     screen(text)?;
-    let Some(parsed) = read_formula(heap, text, 0) else {
-        return Err(Refusal::NoFormula);
+    let mut reader = Reader {
+        heap,
+        lexer: Lexer::new(text),
     };
-    if next_token(text, parsed.next).is_some() {
+    let tree = reader.read_formula().ok_or(Refusal::NoFormula)?;
+    if !matches!(reader.lexer.next_token(), Ok(None)) {
         return Err(Refusal::NoFormula);
     }
-    finish(parsed.tree)
+    Ok(tree?)
 }

@@ -6,8 +6,10 @@ ghost use Rattle.formulas.specs.Texts.{text_of};
 
 use models::Named;
 
-fn constant_text(model: Named) -> &'static str
-    ensures { result.now ≡ text_of model }
+// The text of a named model's formula. By the grammar, its tree is the formula that the model means.
+pub fn formula_text(model: Named) -> &'static str
+    ensures text { result.now ≡ text_of model }
+    ensures means { Forms result.now (formula_of model) }
 {
     match model {
         Named::Sc => "true",
@@ -16,12 +18,4 @@ fn constant_text(model: Named) -> &'static str
         Named::Tso => "Write.x & Write.y | Read.x | Fence.x | Fence.y",
         Named::Rmo => "Write.y & SameAddr | Fence.x | Fence.y | DataDep | ControlDep",
     }
-}
-
-// The text of a named model's formula. By the grammar, its tree is the formula that the model means.
-pub fn formula_text(model: Named) -> &'static str
-    ensures text { result.now ≡ text_of model }
-    ensures means { Forms result.now (formula_of model) }
-{
-    constant_text(model)
 }

@@ -1,7 +1,7 @@
 // The words and signs of a formula text.
 use models::Word;
 
-#[derive(Clone, Copy, PartialEq, Eq)]
+#[derive(Clone, Copy, Debug, PartialEq, Eq)]
 pub enum Token {
     Name(Word),
     And,
