@@ -54,6 +54,7 @@ impl Reader<'_> {
         }
     }
 
+    // Reads like `read_formula`, one step down: there is a reader for each rule of the grammar.
     #[cycle(grammar)]
     fn read_term(&mut self) -> Option<Result<Formula, AllocError>>
         ensures finds { Finds term self.old.lexer.text.now self.old.lexer.at result self.new.lexer.at }

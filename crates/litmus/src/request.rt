@@ -37,6 +37,7 @@ fn row(word: &str) -> Option<[u8; 5]>
     bytes.try_map(|byte| digit(byte).ok_or(())).ok()
 }
 
+// Two lines, as in `row`: one function over both would have to ask for bounds on the sizes of its types.
 fn table(words: &[&str]) -> Option<[[u8; 5]; 5]>
     ensures { Finds (Rows (texts words.now)) result }
 {

@@ -22,6 +22,7 @@ pub enum Refusal {
 }
 
 impl Refusal {
+    // The numbers are fixed: people and scripts go by them.
     pub fn number(self) -> u8
         ensures { result ≡ number_of self }
     {
