@@ -36,9 +36,13 @@ pub ruleset counted_words = (one_word, two_words, three_words)
 abbrev pub after : List (Bor (List ℕ)) → List (Bor (List ℕ))
 after ws = take (length ws - 1) (drop 1 ws)
 
-pub more_words : (ws : List (Bor (List ℕ))) → 0 < length ws → texts ws ≡ (get_or ws 0 past).now ∷ texts (after ws)
+more_words : (ws : List (Bor (List ℕ))) → 0 < length ws → texts ws ≡ (get_or ws 0 past).now ∷ texts (after ws)
 more_words [] h = absurd (omega arith)
 more_words (a ∷ ws) h = ap (λ l. a.now ∷ texts l) (sym (take_all (suc (length ws) - 1) ws (omega arith)))
+
+-- words of which the first is known
+pub headed : (ws : List (Bor (List ℕ))) (w : List ℕ) → 0 < length ws → (get_or ws 0 past).now ≡ w → texts ws ≡ w ∷ texts (after ws)
+headed ws w some is = more_words ws some ∙ ap (λ v. v ∷ texts (after ws)) is
 
 -- of two words and more, some come after the first
 pub some_after : (ws : List (Bor (List ℕ))) → 1 < length ws → length (texts (after ws)) ≡ 0 → ⊥
