@@ -41,4 +41,5 @@ returns c =
     let (admitted, (ts, all)) = c.in_ok-screen.ensures in
     let r = (goal.at.returns c).After-next_token in
     let (t, here, tree) = taken all _ _ (read r) _ _ (left r) admitted (elim c.match-matches.branch [ in-Ok-None w ↦ search rules | in_default w ↦ search rules | in_default-2 w ↦ search rules ]) in
-    record { answer = rw (IfOk-at_ok (λ f. shape f ≡ t) c.in_ok-tree-2.was tree) here; single = single _ }
+    let is = IfOk-at_ok (λ f. shape f ≡ t) c.in_ok-tree-2.was tree in
+    record { answer = search rules; single = single _ }
