@@ -69,7 +69,7 @@ fn show_models(rt: &HostRuntime) -> io::Result<()> {
     Ok(())
 }
 
-// The worked examples in words.
+// The worked examples in words, beside their rulings by place: these are promised by a crate that prints nothing.
 const EXAMPLES: [&str; 12] = [
     "1. W a 1, b=0 | W b 1, a=0",
     "2. W a 1, W b 1 | b=1, a=0",
