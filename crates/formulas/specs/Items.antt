@@ -5,6 +5,7 @@ use Rattle.formulas.specs.declared.token.Token.{Token}
 use Rattle.formulas.specs.declared.token.Token.TheVariants.{Name, And, Or, Open, Close}
 use Rattle.models.specs.declared.Word.{Word}
 
+-- the bytes of a word or sign
 abbrev pub bytes_of : Token → List ℕ
 bytes_of (Name w) = spelling w
 bytes_of And = 38 ∷ []

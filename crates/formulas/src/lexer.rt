@@ -89,21 +89,20 @@ impl<'a> Lexer<'a> {
         ensures same_text { self.new.text.now ≡ self.old.text.now }
     {
         let mut ahead = *self;
-        match ahead.next_token() {
-            Ok(Some(token)) if token == sign => {
-                *self = ahead;
-                true
-            }
-            _ => false,
+        if ahead.next_token() != Ok(Some(sign)) {
+            return false;
         }
+        *self = ahead;
+        true
     }
 }
 
-// The place of the first unknown word or byte, if there is one.
+// Whether each word and byte is known; if not, the place of the first that is not.
 pub fn check_words(text: &[u8]) -> Result<(), usize>
     ensures { MatchResult result (λ _. ((p : ℕ) → Unknown text.now p → ⊥) × ((ts : List Token) × Tokens text.now 0 ts)) (λ p. FirstUnknown text.now p) }
 {
     let mut lexer = Lexer::new(text);
+    // of a word that is known there is nothing to do, which an `Iterator` would not say more plainly
     while lexer.next_token()?.is_some() {}
     Ok(())
 }

@@ -37,6 +37,7 @@ struct Reader<'a> {
     lexer: Lexer<'a>,
 }
 
+// That the text stays and the place goes on is said by each: a type cannot compare a value with what it was.
 impl Reader<'_> {
     #[cycle(grammar)]
     fn read_factor(&mut self) -> Option<Result<Formula, AllocError>>

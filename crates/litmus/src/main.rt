@@ -36,7 +36,7 @@ MODEL is one of
   both NAME NAME               what both keep
 ";
 
-// A function, since `Option` can have no `Display` of ours.
+// A function, since `Option` can have no `Display` of ours; the characters are written out to be seen.
 fn symbol(cell: Option<Cell>) -> char
     ensures { result ≡ shown cell }
 {
@@ -110,7 +110,7 @@ fn answer(rt: &HostRuntime, request: Request<'_>) -> anyhow::Result<()> {
         Request::Examples => show_examples(rt)?,
         Request::Keeps(choice) => match summary_of(rt.alloc(), choice) {
             Ok(summary) => show(rt, summary)?,
-            Err(Refusal::OutOfMemory) => return Err(Refusal::OutOfMemory.into()),
+            Err(refusal @ Refusal::OutOfMemory) => return Err(refusal.into()),
             Err(refusal) => rt.println(refusal)?,
         },
     }

@@ -13,10 +13,7 @@ fn told(refusal: Refusal) -> Told {
 
 // Why a formula text is refused, if it is.
 fn refusal(heap: Global, text: &[u8]) -> Option<Told> {
-    match parse(heap, text) {
-        Ok(_) => None,
-        Err(refusal) => Some(told(refusal)),
-    }
+    parse(heap, text).err().map(told)
 }
 
 const TOO_LONG: Option<Told> = Some((Some(10), None));
@@ -82,10 +79,7 @@ fn formula_lengths(rt: HostRuntime) {
     let heap = rt.alloc();
     let mut text = [b' '; 257];
     assert_eq!(rt; refusal(heap, &text[0..256]), NO_FORMULA);
-    text[252] = b't';
-    text[253] = b'r';
-    text[254] = b'u';
-    text[255] = b'e';
+    text[252..256].copy_from_slice(b"true");
     assert_eq!(rt; refusal(heap, &text[0..256]), None);
     assert_eq!(rt; refusal(heap, &text), TOO_LONG);
     text[0] = b'?';

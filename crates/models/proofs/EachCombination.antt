@@ -1,27 +1,20 @@
--- What holds at each combination of the three facts holds of all pairs of two kinds.
-use Rattle.std.proofs.Common.{ℕ, ◌<◌, Bool, true, false}
+-- What holds of all pairs of two kinds in a list that has each combination of the three facts.
+use Rattle.std.proofs.Common.{◌≡◌, ℕ, ◌<◌, Bool, true, false, List, length, get_or, sym, subst}
 use Rattle.std.specs.Bool.{MatchBool}
-use Rattle.std.specs.List.{AllByRecursion, AllWithin, HoldsAt}
-use Rattle.std.proofs.lemmas.List.Elements.{All-from_recursion, recursion_from_All, All-from_all_within}
-use Rattle.models.specs.Summaries.{facts, combinations}
+use Rattle.std.specs.List.{AllWithin, HoldsAt, Contains}
+use Rattle.std.proofs.lemmas.List.Elements.{All-contains, All-from_all_within, Contains-get_or}
+use Rattle.models.specs.Summaries.{facts}
 use Rattle.models.specs.Tells.{Tells}
 use Rattle.models.specs.declared.facts.Facts.{Facts}
 use Rattle.models.specs.declared.facts.Kind.{Kind}
 
-each : (P : Facts → Type 0) (x y : Kind) → AllByRecursion P (combinations x y) → (s d c : Bool) → P (facts x y s d c)
-each P x y h false false false = h.0
-each P x y h false false true = h.1.0
-each P x y h false true false = h.1.1.0
-each P x y h false true true = h.1.1.1.0
-each P x y h true false false = h.1.1.1.1.0
-each P x y h true false true = h.1.1.1.1.1.0
-each P x y h true true false = h.1.1.1.1.1.1.0
-each P x y h true true true = h.1.1.1.1.1.1.1.0
+module _ (P : Facts → Type 0) (x y : Kind) (xs : List Facts) (only : (f : Facts) → Contains xs f → (f.earlier ≡ x) × (f.later ≡ y)) (every : (s d c : Bool) → Contains xs (facts x y s d c)) where
+  at : ((s d c : Bool) → P (facts x y s d c)) → (f : Facts) → Contains xs f → P f
+  at h f among =
+      let kinds = only f among in
+      subst (λ (k : Kind). P (facts f.earlier k f.same_addr f.data_dep f.control_dep)) (sym kinds.1)
+      (subst (λ (k : Kind). P (facts k y f.same_addr f.data_dep f.control_dep)) (sym kinds.0) (h f.same_addr f.data_dep f.control_dep))
 
-among : (P : Facts → Type 0) (x y : Kind) → ((s d c : Bool) → P (facts x y s d c)) → AllByRecursion P (combinations x y)
-among P x y h =
-    (h false false false, (h false false true, (h false true false, (h false true true, (h true false false, (h true false true, (h true true false, (h true true true, tt))))))))
-
-pub told_of_each : (P : Facts → Type 0) (x y : Kind) (r : Bool) → MatchBool r (AllWithin P (combinations x y) 0 8) ((k : ℕ) × (k < 8) × HoldsAt (λ f. P f → ⊥) (combinations x y) k) → Tells r ((s d c : Bool) → P (facts x y s d c))
-told_of_each P x y true all = each P x y (recursion_from_All P (combinations x y) (All-from_all_within P (combinations x y) all))
-told_of_each P x y false some = λ h. let d = facts x y false false false in some.2 d (All-from_recursion P (combinations x y) (among P x y h) some.0 d some.1)
+  pub told_of_each : (r : Bool) → MatchBool r (AllWithin P xs 0 (length xs)) ((k : ℕ) × (k < length xs) × HoldsAt (λ f. P f → ⊥) xs k) → Tells r ((s d c : Bool) → P (facts x y s d c))
+  told_of_each true all = λ s d c. All-contains P xs (facts x y s d c) (All-from_all_within P xs all) (every s d c)
+  told_of_each false some = λ h. let d = facts x y false false false in some.2 d (at h (get_or xs some.0 d) (Contains-get_or xs some.0 d some.1))

@@ -1,5 +1,5 @@
 -- What a model keeps of the pairs of two kinds, told by one cell.
-use Rattle.std.specs.Prelude.{◌≡◌, Bool, true, false, List, [], ◌∷◌, None, Option, MatchOption, slice_index_or}
+use Rattle.std.specs.Prelude.{◌≡◌, Bool, List, [], None, Option, MatchOption, slice_index_or}
 use Rattle.models.specs.Facts.{index, EachKind}
 use Rattle.models.specs.Tables.{cell_keeps}
 use Rattle.models.specs.declared.facts.Facts.{Facts}
@@ -9,12 +9,6 @@ use Rattle.models.specs.declared.table.Cell.{Cell}
 -- a combination of facts
 abbrev pub facts : Kind → Kind → Bool → Bool → Bool → Facts
 facts x y s d c = record { earlier = x; later = y; same_addr = s; data_dep = d; control_dep = c }
-
--- the pairs of kinds x and y, one for each combination of the three facts
-abbrev pub combinations : Kind → Kind → List Facts
-combinations x y =
-    facts x y false false false ∷ facts x y false false true ∷ facts x y false true false ∷ facts x y false true true
-    ∷ facts x y true false false ∷ facts x y true false true ∷ facts x y true true false ∷ facts x y true true true ∷ []
 
 -- whatever the three facts are, the pairs of kinds x and y are kept just where the cell says
 abbrev pub Describes : (Facts → Bool) → Kind → Kind → Cell → Type 0

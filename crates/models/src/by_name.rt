@@ -84,7 +84,7 @@ pub enum Named {
     Rmo,
 }
 
-// The model with this name.
+// The model with this name. The names stand here and in `name`: a case for each is plainer than a search through all.
 impl FromStr for Named {
     type Err = Refusal;
 
@@ -109,7 +109,7 @@ impl Named {
         [Named::Sc, Named::Ibm370, Named::Tso, Named::Rmo]
     }
 
-    // A text that needs no memory, where `Display` would write one.
+    // A text that a caller may keep, where `Display` would only write it.
     pub fn name(self) -> &'static str
         ensures { result.now ≡ name_of self }
     {

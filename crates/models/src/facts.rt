@@ -28,7 +28,7 @@ impl Kind {
         ]
     }
 
-    // The row and the column of this kind in a table. By its name, since `usize::from` would not say what the number is.
+    // The row and the column of this kind in a table. At a call, `usize::from(kind)` would not show that.
     pub fn index(self) -> usize
         ensures { result ≡ index self }
     {

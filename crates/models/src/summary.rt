@@ -1,7 +1,8 @@
 // A model's answers told by cells.
-ghost use Rattle.std.specs.Prelude.{◌≡◌};
-ghost use Rattle.models.specs.Summaries.{combinations, Describes, TellsCell, TellsRow, Summarizes};
+ghost use Rattle.std.specs.Prelude.{◌≡◌, Bool, Contains};
+ghost use Rattle.models.specs.Summaries.{facts, Describes, TellsCell, TellsRow, Summarizes};
 ghost use Rattle.models.specs.Tells.{Tells};
+ghost use Rattle.models.specs.declared.facts.Facts.{Facts};
 
 use crate::facts::{Facts, KINDS, Kind};
 use crate::model::Model;
@@ -9,7 +10,8 @@ use crate::table::Cell;
 
 // The pairs of two kinds: each combination of the three facts.
 fn combinations(earlier: Kind, later: Kind) -> [Facts; 8]
-    ensures { result ≡ combinations earlier later }
+    ensures only { (f : Facts) → Contains result f → (f.earlier ≡ earlier) × (f.later ≡ later) }
+    ensures every { (s d c : Bool) → Contains result (facts earlier later s d c) }
 {
     let facts = |same_addr, data_dep, control_dep| Facts {
         earlier,
@@ -71,6 +73,7 @@ fn row_of<M: Model>(model: &M, earlier: Kind) -> [Option<Cell>; KINDS]
 pub fn summarize<M: Model>(model: &M) -> Summary
     ensures { Summarizes (M.Model.meaning model.now) result }
 {
+    // the closure has a contract, since the checker does not read one off a call of a generic function
     Kind::all().map(
         |earlier| -> [Option<Cell>; KINDS]
             ensures { TellsRow (M.Model.meaning model.entry.now) earlier result }

@@ -145,8 +145,8 @@ pub listed_below : (o : List ℕ) (n : ℕ) → ListsEach (λ x. x < n) o → (k
 listed_below o n each k within = each.only (get_or o k 0) (k, within, refl)
 
 -- what is merely so of a list can be found out
-pub each_of : {n : ℕ} {o : List ℕ} → ∥ ListsEach (λ x. x < n) o ∥₁ → ListsEach (λ x. x < n) o
-each_of {n = n} {o = o} merely = record {
+pub listing : {n : ℕ} {o : List ℕ} → ∥ ListsEach (λ x. x < n) o ∥₁ → ListsEach (λ x. x < n) o
+listing {n = n} {o = o} merely = record {
   every = λ x under. decided (dec_listed o x) (λ none. ∥∥₁_elim merely ⊥_prop (λ each. none (each.every x under)));
   only = λ x h. ∥∥₁_elim merely le_prop (λ each. each.only x h);
   once = λ x twice. ∥∥₁_elim merely ⊥_prop (λ each. each.once x twice);

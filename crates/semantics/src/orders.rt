@@ -142,7 +142,8 @@ pub(crate) fn complete(places: &[Placed]) -> bool
     places.iter().all(|placed| placed.instruction.kind() != Kind::Read || placed.expected.is_some())
 }
 
-// Whether there is an outcome, and the order fulfils it under the model.
+// Whether there is an outcome, and the order fulfils it under the model. Of the parts of a test, not of the test: these
+// are what a candidate and its conditions speak of.
 pub(crate) fn fulfils<M: Model>(
     places: &[Placed],
     initial: &[u8],

@@ -8,7 +8,7 @@ use crate::instruction::Instruction;
 use crate::placed::{Placed, place_at};
 use models::{Facts, Kind};
 
-// Whether x stands before y in one thread.
+// Whether x stands before y in one thread. No method of `Pair`: it is asked of other places than facts are.
 pub(crate) fn precedes(places: &[Placed], x: usize, y: usize) -> bool
     ensures { Tells result (Precedes places.now x y) }
 {

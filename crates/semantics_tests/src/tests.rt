@@ -2,7 +2,7 @@
 use models::Named;
 use semantics::{Access, Instruction, LOCATIONS, PLACES, Refusal, Stored, Test};
 
-// The number of a refusal, and 0 where there is none.
+// The number of a refusal, and 0 where there is none: no refusal has it, and the cases stay short.
 fn number<T: Drop>(r: Result<T, Refusal>) -> u8 {
     match r {
         Ok(_) => 0,
@@ -54,10 +54,10 @@ fn difference(target: u8, first: u8, second: u8) -> Instruction {
 fn test(entries: &[(u8, Instruction, Option<u8>)]) -> Test {
     let mut test = Test::new();
     for (thread, instruction, expected) in entries {
-        if let Ok(place) = test.enter(*thread, *instruction) {
-            if let Some(value) = expected {
-                let _ = test.expect(place, *value);
-            }
+        if let Ok(place) = test.enter(*thread, *instruction)
+            && let Some(value) = expected
+        {
+            let _ = test.expect(place, *value);
         }
     }
     test
@@ -161,10 +161,8 @@ fn accesses(rt: HostRuntime) {
 
 // The three facts of two places, if they are of one thread.
 fn facts(test: &Test, x: usize, y: usize) -> Option<(bool, bool, bool)> {
-    match test.facts(x, y) {
-        Some(facts) => Some((facts.same_addr, facts.data_dep, facts.control_dep)),
-        None => None,
-    }
+    let facts = test.facts(x, y)?;
+    Some((facts.same_addr, facts.data_dep, facts.control_dep))
 }
 
 #[test]

@@ -1,4 +1,4 @@
-use Rattle.std.proofs.Common.{◌≡◌, ℕ, ◌<◌, Bor, List, [], ◌∷◌, length, Some, None, Option, rules, tests, lit<, lit≤, MatchOption, subst, sym}
+use Rattle.std.proofs.Common.{◌≡◌, ℕ, ◌<◌, Bor, List, [], ◌∷◌, length, Some, None, Option, rules, tests, lit<, lit≤, MatchOption}
 use Rattle.std.specs.List.{AllWithin, HoldsAt}
 use Rattle.std.specs.Option.{option_copied}
 use Rattle.std.proofs.lemmas.Iterator.{first_from_find, YieldsList-from_slice}
@@ -26,6 +26,6 @@ found P (Some x) one = one.0
 pub returns : goal.returns
 returns g c =
     let P : Cell → Type 0 = Describes (g.M.Model.meaning c.args.model.now) c.args.earlier c.args.later in
-    subst (λ (o : Option Cell). MatchOption o ((cell : Cell) → P cell → ⊥) P) (sym c.copied.ensures)
-    (found P c.find.result
-    (first_from_find _ _ c.find.result P (λ cell. P cell → ⊥) c.find.ensures.ran (YieldsList-from_slice cells cc) (λ x q k. search (rules, tests)) (λ x q k. search (rules, tests))))
+    let told : MatchOption (option_copied c.find.result) ((cell : Cell) → P cell → ⊥) P = found P c.find.result
+    (first_from_find _ _ c.find.result P (λ cell. P cell → ⊥) c.find.ensures.ran (YieldsList-from_slice cells cc) (λ x q k. search (rules, tests)) (λ x q k. search (rules, tests))) in
+    search rules
