@@ -34,41 +34,35 @@ const SC: Table = Table {
     rows: [KEPT; KINDS],
 };
 
+// a write stays before writes and fences, and before a read of its address
+const WRITE_IBM370: Row = Row {
+    cells: [
+        Cell::SameAddr,
+        Cell::Always,
+        Cell::Always,
+        Cell::Free,
+        Cell::Free,
+    ],
+};
+
 const IBM370: Table = Table {
-    rows: [
-        KEPT,
-        Row {
-            cells: [
-                Cell::SameAddr,
-                Cell::Always,
-                Cell::Always,
-                Cell::Free,
-                Cell::Free,
-            ],
-        },
-        KEPT,
-        FENCED,
-        FENCED,
+    rows: [KEPT, WRITE_IBM370, KEPT, FENCED, FENCED],
+};
+
+// a write stays before writes and fences
+const WRITE_TSO: Row = Row {
+    cells: [
+        Cell::Free,
+        Cell::Always,
+        Cell::Always,
+        Cell::Free,
+        Cell::Free,
     ],
 };
 
 // total store order
 const TSO: Table = Table {
-    rows: [
-        KEPT,
-        Row {
-            cells: [
-                Cell::Free,
-                Cell::Always,
-                Cell::Always,
-                Cell::Free,
-                Cell::Free,
-            ],
-        },
-        KEPT,
-        FENCED,
-        FENCED,
-    ],
+    rows: [KEPT, WRITE_TSO, KEPT, FENCED, FENCED],
 };
 
 // relaxed memory order
