@@ -55,6 +55,7 @@ pub struct Lexer<'a> {
     ghost within: { at ≤ length text.now },
 }
 
+// That the text stays and the place goes on is said by each: a type cannot compare a value with what it was.
 impl<'a> Lexer<'a> {
     pub fn new(text: &'a [u8]) -> Lexer<'a>
         ensures text { result.text.now ≡ text.now }

@@ -2,12 +2,14 @@
 ghost use Rattle.std.specs.Prelude.{[], ◌∷◌};
 ghost use Rattle.litmus.specs.Requests.{texts, Finds, Digit, Digits, Rows, Asks, Requests};
 
+use models::KINDS;
+
 // A model as it was asked for.
 #[derive(Clone, Copy)]
 pub enum Choice<'a> {
     Name(&'a str),
     Formula(&'a str),
-    Table([[u8; 5]; 5]),
+    Table([[u8; KINDS]; KINDS]),
     Either(&'a str, &'a str),
     Both(&'a str, &'a str),
 }
@@ -20,6 +22,7 @@ pub enum Request<'a> {
     Keeps(Choice<'a>),
 }
 
+// By the byte: `to_digit` is of a `char`, and what it gives would have to be made a byte again.
 fn digit(byte: u8) -> Option<u8>
     ensures { Finds (Digit byte) result }
 {
@@ -30,18 +33,18 @@ fn digit(byte: u8) -> Option<u8>
 }
 
 // The numbers of a row, which is five digits.
-fn row(word: &str) -> Option<[u8; 5]>
+fn row(word: &str) -> Option<[u8; KINDS]>
     ensures { Finds (Digits word.now) result }
 {
-    let bytes = <[u8; 5]>::try_from(word.as_bytes()).ok()?;
+    let bytes = <[u8; KINDS]>::try_from(word.as_bytes()).ok()?;
     bytes.try_map(|byte| digit(byte).ok_or(())).ok()
 }
 
 // Two lines, as in `row`: one function over both would have to ask for bounds on the sizes of its types.
-fn table(words: &[&str]) -> Option<[[u8; 5]; 5]>
+fn table(words: &[&str]) -> Option<[[u8; KINDS]; KINDS]>
     ensures { Finds (Rows (texts words.now)) result }
 {
-    let rows = <[&str; 5]>::try_from(words).ok()?;
+    let rows = <[&str; KINDS]>::try_from(words).ok()?;
     rows.try_map(|word| row(word).ok_or(())).ok()
 }
 

@@ -4,7 +4,7 @@ use models::{Both, Either, Facts, Kind, Model, Named, Refusal, Table};
 use std::alloc::Global;
 use std::test::Fail;
 
-// The number and the place of a refusal.
+// The number and the place of a refusal: people go by these, so the cases say them.
 type Told = (Option<u8>, Option<usize>);
 
 fn told(refusal: Refusal) -> Told {
@@ -87,7 +87,8 @@ fn formula_lengths(rt: HostRuntime) {
     assert_eq!(rt; refusal(heap, &text), TOO_LONG);
 }
 
-// Whether two models keep the same of all pairs of two kinds.
+// Whether two models keep the same of all pairs of two kinds. Loops, here and in `alike`: as two `all`s, one in the
+// other's closure, the borrow checker does not take them.
 fn same_answers<A: Model, B: Model>(a: &A, b: &B, earlier: Kind, later: Kind) -> bool {
     for same_addr in [false, true] {
         for data_dep in [false, true] {

@@ -12,6 +12,7 @@ use crate::refusal::Refusal;
 use crate::test::{LOCATIONS, PLACES, Test};
 use models::Kind;
 
+// That a refusal changes nothing is said by each: a type cannot compare a value with what it was.
 impl Test {
     // A test with no instruction, all of whose initial values are 0.
     pub fn new() -> Test

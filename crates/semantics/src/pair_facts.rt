@@ -24,6 +24,7 @@ pub(crate) struct Pair<'a> {
 }
 
 impl Pair<'_> {
+    // Two names for what would be one function of a place, so that the facts read as they are said.
     fn earlier(&self) -> Instruction
         ensures { result ≡ instruction_at self.now.places.now self.now.x }
     {

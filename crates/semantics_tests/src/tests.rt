@@ -34,6 +34,7 @@ fn store(location: u8, register: u8, address: Option<u8>) -> Instruction {
     }
 }
 
+// A function for each: a case with named fields cannot be handed over as a function.
 fn sum(target: u8, first: u8, second: u8) -> Instruction {
     Instruction::Sum {
         target,
@@ -159,7 +160,7 @@ fn accesses(rt: HostRuntime) {
     assert_eq!(rt; (PLACES, LOCATIONS), (32, 4));
 }
 
-// The three facts of two places, if they are of one thread.
+// The three facts of two places, if they are of one thread, without the kinds, so that the cases stay short.
 fn facts(test: &Test, x: usize, y: usize) -> Option<(bool, bool, bool)> {
     let facts = test.facts(x, y)?;
     Some((facts.same_addr, facts.data_dep, facts.control_dep))

@@ -10,6 +10,7 @@ ghost use Rattle.semantics.specs.Program.{Complete};
 use models::Model;
 use semantics::Test;
 
+// Said in full, as `Test::fulfils` says it, so that the promise is read where it is given.
 // Whether an order shows that the outcome of a complete test is allowed under a model: it does if it fulfils the
 // outcome, and then there is an admitted choice without a cycle.
 pub fn witnesses<M: Model>(test: &Test, model: &M, order: &[usize]) -> bool
