@@ -1,17 +1,17 @@
 -- What comes next in a formula text.
-use Rattle.std.specs.Prelude.{◌≡◌, ℕ, ◌+◌, ◌<◌, ◌≤◌, Bool, true, false, List, [], ◌∷◌, length, Some, None, Option, Ok, Err, Result, ◌≢◌, slice_index}
+use Rattle.std.specs.Prelude.{◌≡◌, ℕ, ◌+◌, ◌<◌, ◌≤◌, Bool, true, false, List, ◌∷◌, length, Some, None, Option, option_to_list, Ok, Err, Result, ◌≢◌, slice_index}
 use Rattle.formulas.specs.Words.{spelling, sign_byte, part, Run, Strange, Tokens}
 use Rattle.formulas.specs.declared.token.Token.{Token}
 use Rattle.formulas.specs.declared.token.Token.TheVariants.{Name, And, Or, Open, Close}
 use Rattle.models.specs.declared.Word.{Word}
 
--- the bytes of a word or sign
+-- the bytes of a word, and the one byte of a sign
 abbrev pub bytes_of : Token → List ℕ
 bytes_of (Name w) = spelling w
-bytes_of And = 38 ∷ []
-bytes_of Or = 124 ∷ []
-bytes_of Open = 40 ∷ []
-bytes_of Close = 41 ∷ []
+bytes_of And = option_to_list (sign_byte And)
+bytes_of Or = option_to_list (sign_byte Or)
+bytes_of Open = option_to_list (sign_byte Open)
+bytes_of Close = option_to_list (sign_byte Close)
 
 -- from i on, past any spaces, comes a word or sign that ends just before j, or no more, or something unknown, told by its place
 pub data Comes (s : List ℕ) : ℕ → Result (Option Token) ℕ → ℕ → Type 0 where

@@ -7,7 +7,7 @@ use models::{Both, Either, Named, Refusal, Summary, Table, summarize};
 use std::alloc::Global;
 
 // The models with these names.
-fn two(first: &str, second: &str) -> Result<(Named, Named), Refusal>
+fn both_named(first: &str, second: &str) -> Result<(Named, Named), Refusal>
     ensures { FindsTwo first.now second.now result }
 {
     Ok((first.parse()?, second.parse()?))
@@ -21,11 +21,11 @@ pub fn summary_of(heap: Global, choice: Choice<'_>) -> Result<Summary, Refusal>
         Choice::Formula(text) => Ok(summarize(&parse(heap, text.as_bytes())?)),
         Choice::Table(numbers) => Ok(summarize(&Table::try_from(numbers)?)),
         Choice::Either(first, second) => {
-            let (first, second) = two(first, second)?;
+            let (first, second) = both_named(first, second)?;
             Ok(summarize(&Either { first, second }))
         }
         Choice::Both(first, second) => {
-            let (first, second) = two(first, second)?;
+            let (first, second) = both_named(first, second)?;
             Ok(summarize(&Both { first, second }))
         }
     }

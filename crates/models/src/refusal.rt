@@ -51,7 +51,7 @@ impl Refusal {
     }
 }
 
-// As the command tells it: the number and, where there is one, the place.
+// The number and, where there is one, the place.
 impl fmt::Display for Refusal {
     ghost output = { λ e. Some (text_of (told e)) };
 

@@ -7,11 +7,11 @@ use crate::instruction::{Instruction, Stored};
 use crate::placed::Placed;
 
 // As many registers as there are numbers in a byte, so that no index wants a bound.
-const NUMBERS: usize = 256;
+const BYTE_VALUES: usize = 256;
 
 // What an instruction puts into its target, where the registers hold this: a read yields its expected value.
-fn result_of(placed: Placed, registers: &[u8; NUMBERS]) -> u8
-    ensures { (held : ℕ → ℕ) → ((k : ℕ) → k < NUMBERS → slice_index registers.now k ≡ held k) → result ≡ result_of placed.instruction placed.expected held }
+fn result_of(placed: Placed, registers: &[u8; BYTE_VALUES]) -> u8
+    ensures { (held : ℕ → ℕ) → ((k : ℕ) → k < BYTE_VALUES → slice_index registers.now k ≡ held k) → result ≡ result_of placed.instruction placed.expected held }
 {
     match placed.instruction {
         Instruction::Read { .. } => placed.expected.unwrap_or(0),
@@ -26,11 +26,11 @@ fn result_of(placed: Placed, registers: &[u8; NUMBERS]) -> u8
 }
 
 // What the registers of a thread hold once it has run its instructions at the first `end` places.
-fn registers_at(places: &[Placed], thread: u8, end: usize) -> [u8; NUMBERS]
+fn registers_at(places: &[Placed], thread: u8, end: usize) -> [u8; BYTE_VALUES]
     requires { end ≤ length places.now }
-    ensures { (length result ≡ NUMBERS) × ((k : ℕ) → k < NUMBERS → slice_index result k ≡ held places.now thread end k) }
+    ensures { (length result ≡ BYTE_VALUES) × ((k : ℕ) → k < BYTE_VALUES → slice_index result k ≡ held places.now thread end k) }
 {
-    let mut registers = [0; NUMBERS];
+    let mut registers = [0; BYTE_VALUES];
     for placed in &places[..end] {
         if placed.thread == thread
             && let Some(target) = placed.instruction.target()

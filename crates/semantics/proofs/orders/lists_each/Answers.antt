@@ -12,7 +12,7 @@ returns-then-all c =
     told_again c.all-then-all.result ((x : ℕ) → x < c.args.n → Listed o x × (Before o x x → ⊥)) (ListsEach (λ x. x < c.args.n) o)
     (lists_each o c.args.n (told_each _ _ true (λ x. x < c.args.n) 0 o c.if-all.ensures.ran c.iter.ensures.rest (λ x q k. search (rules, tests)) (λ x q k. search (rules, tests))))
     (λ each x under. (each.every x under, each.once x))
-    (told_below _ _ c.all-then-all.result (λ x. Listed o x × (Before o x x → ⊥)) c.args.n c.all-then-all.ensures.ran refl (λ x q k. search (rules, tests)) (λ x q k. search (rules, tests)))
+    (told_below _ _ c.all-then-all.result (λ x. Listed o x × (Before o x x → ⊥)) c.args.n c.all-then-all.ensures.ran refl (λ x q k. (search (rules, tests), (search (rules, tests), search (rules, tests)))) (λ x q k. search (rules, tests)))
 
 pub returns-else-all : goal.returns-else-all
 returns-else-all c =
