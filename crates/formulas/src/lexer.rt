@@ -65,6 +65,8 @@ impl<'a> Lexer<'a> {
     }
 
     // The next word or sign, if there is one; an unknown word or byte is told by its place.
+    // Inlined for speed: a text is read by many short calls.
+    #[inline(always)]
     pub fn next_token(&mut self) -> Result<Option<Token>, usize>
         ensures comes { Comes self.old.text.now self.old.at result self.new.at }
         ensures advances { IfOk result (λ token. OnSome token (self.old.at < self.new.at)) }

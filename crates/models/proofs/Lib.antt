@@ -1,5 +1,4 @@
 pub mod ByKind
 pub mod Combinations
 pub mod EachCombination
-pub mod Rows
 pub mod Telling

@@ -1,11 +1,20 @@
 -- The latest of the visible writes, looked for from the end of the order.
-use Rattle.std.proofs.Common.{◌≡◌, ℕ, ◌-◌, ◌<◌, List, length, get_or, reverse, Some, None, Option, MatchOption, option_map, sym, ap, ◌∙◌, subst, inl, inr, ⊎_elim, arith}
+use Rattle.std.proofs.Common.{◌≡◌, ℕ, ◌-◌, ◌<◌, Bor, Iter, List, [], ◌∷◌, length, get_or, reverse, Some, None, Option, MatchOption, option_map, sym, ap, ◌∙◌, subst, inl, inr, ⊎_elim, arith}
 use Rattle.std.proofs.lemmas.Bool.{cases_order}
-use Rattle.std.proofs.lemmas.List.{get_or-reverse, length-reverse}
+use Rattle.std.proofs.lemmas.Iterator.{YieldsList}
+use Rattle.std.proofs.lemmas.Iterator.Consumers.{YieldsList-from_shown}
+use Rattle.std.proofs.lemmas.List.{get_or-reverse, length-reverse, reverse-append}
+use Rattle.std.specs.Slice.Iter.{iter_rest, iter_steps_back}
 use Rattle.std.specs.List.{AllWithin, HoldsAt}
 use Rattle.semantics.specs.Events.{Events}
 use Rattle.semantics.specs.Lists.{Listed}
 use Rattle.semantics.specs.Orders.{Visible, Latest}
+
+-- what a slice yields from its end
+pub from_back : {s : Iter ℕ} (xs : List ℕ) → iter_rest s ≡ xs → YieldsList iter_steps_back (λ y. y.now) s (reverse xs)
+from_back {s} xs is = subst (λ (k : List ℕ). YieldsList iter_steps_back (λ (y : Bor ℕ). y.now) s (reverse k)) is
+    (YieldsList-from_shown iter_steps_back (λ (y : Bor ℕ). y.now) (λ u. reverse (iter_rest u)) (λ u t p. length-reverse _ ∙ p.0)
+    (λ u x t p. ap reverse p ∙ reverse-append (iter_rest t) (x.now ∷ [])) s)
 
 module _ (e : Events) (o : List ℕ) (r l : ℕ) (listed : (w : ℕ) → Visible e o r l w → Listed o w) where
   abbrev Unseen : ℕ → Type 0

@@ -101,11 +101,9 @@ impl<M: Model> Candidate<'_, M> {
     fn latest(&self, r: usize, location: u8) -> Option<usize>
         ensures { MatchOption result ((w : ℕ) → Visible (accesses self.now.places.now) self.now.order.now r location w → ⊥) (Latest (accesses self.now.places.now) self.now.order.now r location) }
     {
-        self.order
-            .iter()
-            .rev()
-            .find(|&&w| self.visible(r, location, w))
-            .copied()
+        // by `?`, so that the proof speaks of what was found and not of the call
+        let last = self.order.iter().rfind(|&&w| self.visible(r, location, w))?;
+        Some(*last)
     }
 
     // Whether w writes this value to the location.
