@@ -23,7 +23,8 @@ fn leading<F: Fn(u8) -> bool>(bytes: &[u8], test: F) -> usize
     bytes.iter().take_while(|byte| test(**byte)).count()
 }
 
-// The word or sign with these bytes.
+// The word or sign with these bytes. Inlined for speed, as `next_token` is.
+#[inline(always)]
 fn known(bytes: &[u8]) -> Option<Token>
     ensures { MatchOption result ((t : Token) → bytes.now ≢ bytes_of t) (λ t. bytes.now ≡ bytes_of t) }
 {
